@@ -1,0 +1,14 @@
+pub mod Refusal
+pub mod Field
+pub mod FieldLaws
+pub mod Bytes
+pub mod BytesLaws
+pub mod Write
+pub mod Answer
+pub mod WriteLaws
+pub mod Read
+pub mod ReadLaws
+pub mod Parts
+pub mod PartsLaws
+pub mod Reading
+pub mod ReadingLaws
