@@ -1,0 +1,34 @@
+/* The AC-3 encoder core as C functions: the entries of crate `host`, which `rt staticlib host` builds as
+ * target/staticlib/libhost.a.
+ *
+ * Each answers 0 or the number of a refusal (docs/CALLS.md). A slice is a pointer, then its length in elements.
+ * The small result slices (exponent, groups, bits, strategy, code, counts) have exactly the length
+ * named; another length is 10. On every refusal a result slice of the right length holds 0. */
+#ifndef AC3CORE_H
+#define AC3CORE_H
+
+#include <stddef.h>
+#include <stdint.h>
+
+#ifdef __cplusplus
+extern "C" {
+#endif
+
+uint32_t ac3_check_sheet(const uint8_t *sheet, size_t n);
+uint32_t ac3_extract_exponent(float x, uint8_t *exponent, size_t one);
+uint32_t ac3_preprocess_d15(uint8_t *exp, size_t n);
+uint32_t ac3_quantise_exponents_to_grpsize(uint8_t *exp, size_t n, size_t grpsize);
+uint32_t ac3_ngrps_for_strategy(size_t end, size_t grpsize, uint32_t *groups, size_t one);
+uint32_t ac3_write_exponents_grouped(uint8_t *out, size_t n, const uint8_t *exp, size_t m, size_t end, size_t grpsize, uint32_t *bits, size_t one);
+uint32_t ac3_read_exponents_grouped(const uint8_t *input, size_t n, uint8_t *exp, size_t m, size_t end, size_t grpsize, uint32_t *bits, size_t one);
+uint32_t ac3_pick_strategy_for_block(const uint8_t *exp, size_t n, size_t end, uint8_t *strategy, size_t one);
+uint32_t ac3_quantise_mantissa(float coeff, uint32_t exp, uint32_t bap, uint16_t *code, size_t one);
+uint32_t ac3_write_mantissa_stream(uint8_t *out, size_t n, const uint8_t *bap, size_t m, const uint16_t *codes, size_t k, uint32_t *bits, size_t one);
+uint32_t ac3_read_mantissa_stream(const uint8_t *input, size_t n, const uint8_t *bap, size_t m, uint16_t *codes, size_t k, uint32_t *bits, size_t one);
+uint32_t ac3_mantissa_bits_total_ends(const uint8_t *sheet, size_t n, const uint8_t *bap, size_t m, uint32_t *counts, size_t six);
+
+#ifdef __cplusplus
+}
+#endif
+
+#endif

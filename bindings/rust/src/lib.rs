@@ -1,0 +1,144 @@
+//! Safe wrappers of the AC-3 encoder core, one for each entry of its crate `host`.
+//!
+//! A refused call gives the refusal's number (docs/CALLS.md of the repository). Nothing checks these declarations
+//! against the proved source; `bindings/c/ac3core.h` has the same list.
+
+extern "C" {
+    fn ac3_check_sheet(sheet: *const u8, n: usize) -> u32;
+    fn ac3_extract_exponent(x: f32, exponent: *mut u8, one: usize) -> u32;
+    fn ac3_preprocess_d15(exp: *mut u8, n: usize) -> u32;
+    fn ac3_quantise_exponents_to_grpsize(exp: *mut u8, n: usize, grpsize: usize) -> u32;
+    fn ac3_ngrps_for_strategy(end: usize, grpsize: usize, groups: *mut u32, one: usize) -> u32;
+    fn ac3_write_exponents_grouped(
+        out: *mut u8, n: usize, exp: *const u8, m: usize, end: usize, grpsize: usize, bits: *mut u32, one: usize,
+    ) -> u32;
+    fn ac3_read_exponents_grouped(
+        input: *const u8, n: usize, exp: *mut u8, m: usize, end: usize, grpsize: usize, bits: *mut u32, one: usize,
+    ) -> u32;
+    fn ac3_pick_strategy_for_block(exp: *const u8, n: usize, end: usize, strategy: *mut u8, one: usize) -> u32;
+    fn ac3_quantise_mantissa(coeff: f32, exp: u32, bap: u32, code: *mut u16, one: usize) -> u32;
+    fn ac3_write_mantissa_stream(
+        out: *mut u8, n: usize, bap: *const u8, m: usize, codes: *const u16, k: usize, bits: *mut u32, one: usize,
+    ) -> u32;
+    fn ac3_read_mantissa_stream(
+        input: *const u8, n: usize, bap: *const u8, m: usize, codes: *mut u16, k: usize, bits: *mut u32, one: usize,
+    ) -> u32;
+    fn ac3_mantissa_bits_total_ends(
+        sheet: *const u8, n: usize, bap: *const u8, m: usize, counts: *mut u32, six: usize,
+    ) -> u32;
+}
+
+/// A refusal's number: 1 to 10, document 01, "When a call is turned back".
+#[derive(Clone, Copy, Debug, PartialEq, Eq)]
+pub struct Refusal(pub u32);
+
+/// What a call gives, or the number with which it refuses.
+pub type Answer<T> = Result<T, Refusal>;
+
+fn answer<T>(number: u32, value: T) -> Answer<T> {
+    match number {
+        0 => Ok(value),
+        k => Err(Refusal(k)),
+    }
+}
+
+/// Whether a track sheet is accepted.
+pub fn check_sheet(sheet: &[u8]) -> Answer<()> {
+    answer(unsafe { ac3_check_sheet(sheet.as_ptr(), sheet.len()) }, ())
+}
+
+/// The exponent of a coefficient.
+pub fn extract_exponent(x: f32) -> Answer<u8> {
+    // The core refuses an infinity as it refuses a NaN, and takes no NaN's pattern.
+    let x = if x.is_nan() { f32::INFINITY } else { x };
+    let mut exponent = [0u8];
+    let number = unsafe { ac3_extract_exponent(x, exponent.as_mut_ptr(), 1) };
+    answer(number, exponent[0])
+}
+
+/// D15 shaping, in place.
+pub fn preprocess_d15(exp: &mut [u8]) -> Answer<()> {
+    answer(unsafe { ac3_preprocess_d15(exp.as_mut_ptr(), exp.len()) }, ())
+}
+
+/// Shaping for a span of 1, 2 or 4 bins, in place.
+pub fn quantise_exponents_to_grpsize(exp: &mut [u8], grpsize: usize) -> Answer<()> {
+    answer(unsafe { ac3_quantise_exponents_to_grpsize(exp.as_mut_ptr(), exp.len(), grpsize) }, ())
+}
+
+/// How many groups an exponent set has.
+pub fn ngrps_for_strategy(end: usize, grpsize: usize) -> Answer<u32> {
+    let mut groups = [0u32];
+    let number = unsafe { ac3_ngrps_for_strategy(end, grpsize, groups.as_mut_ptr(), 1) };
+    answer(number, groups[0])
+}
+
+/// Writes an exponent set at the start of `out`; gives its bits.
+pub fn write_exponents_grouped(out: &mut [u8], exp: &[u8], end: usize, grpsize: usize) -> Answer<u32> {
+    let mut bits = [0u32];
+    let number = unsafe {
+        ac3_write_exponents_grouped(
+            out.as_mut_ptr(), out.len(), exp.as_ptr(), exp.len(), end, grpsize, bits.as_mut_ptr(), 1,
+        )
+    };
+    answer(number, bits[0])
+}
+
+/// Reads an exponent set from the start of `input`; gives the bits read.
+pub fn read_exponents_grouped(input: &[u8], exp: &mut [u8], end: usize, grpsize: usize) -> Answer<u32> {
+    let mut bits = [0u32];
+    let number = unsafe {
+        ac3_read_exponents_grouped(
+            input.as_ptr(), input.len(), exp.as_mut_ptr(), exp.len(), end, grpsize, bits.as_mut_ptr(), 1,
+        )
+    };
+    answer(number, bits[0])
+}
+
+/// The strategy for a block's exponents: 1 D15, 2 D25, 3 D45.
+pub fn pick_strategy_for_block(exp: &[u8], end: usize) -> Answer<u8> {
+    let mut strategy = [0u8];
+    let number = unsafe { ac3_pick_strategy_for_block(exp.as_ptr(), exp.len(), end, strategy.as_mut_ptr(), 1) };
+    answer(number, strategy[0])
+}
+
+/// The code of a coefficient at an exponent and a bap.
+pub fn quantise_mantissa(coeff: f32, exp: u32, bap: u32) -> Answer<u16> {
+    let coeff = if coeff.is_nan() { f32::INFINITY } else { coeff };
+    let mut code = [0u16];
+    let number = unsafe { ac3_quantise_mantissa(coeff, exp, bap, code.as_mut_ptr(), 1) };
+    answer(number, code[0])
+}
+
+/// Writes a stream of mantissas at the start of `out`; gives its bits.
+pub fn write_mantissa_stream(out: &mut [u8], bap: &[u8], codes: &[u16]) -> Answer<u32> {
+    let mut bits = [0u32];
+    let number = unsafe {
+        ac3_write_mantissa_stream(
+            out.as_mut_ptr(), out.len(), bap.as_ptr(), bap.len(), codes.as_ptr(), codes.len(), bits.as_mut_ptr(), 1,
+        )
+    };
+    answer(number, bits[0])
+}
+
+/// Reads a stream of mantissas from the start of `input`; gives the bits read.
+pub fn read_mantissa_stream(input: &[u8], bap: &[u8], codes: &mut [u16]) -> Answer<u32> {
+    let mut bits = [0u32];
+    let number = unsafe {
+        ac3_read_mantissa_stream(
+            input.as_ptr(), input.len(), bap.as_ptr(), bap.len(), codes.as_mut_ptr(), codes.len(), bits.as_mut_ptr(), 1,
+        )
+    };
+    answer(number, bits[0])
+}
+
+/// The mantissa bits of a frame's six blocks.
+pub fn mantissa_bits_total_ends(sheet: &[u8], bap: &[u8]) -> Answer<[u32; 6]> {
+    let mut counts = [0u32; 6];
+    let number = unsafe {
+        ac3_mantissa_bits_total_ends(
+            sheet.as_ptr(), sheet.len(), bap.as_ptr(), bap.len(), counts.as_mut_ptr(), 6,
+        )
+    };
+    answer(number, counts)
+}

@@ -1,0 +1,35 @@
+-- What an entry for hosts answers, given the answer of the call behind it. A result slice has exactly one entry; another length is a wrong length,
+-- which stands in document 01's order after 1 and 2 and before 3. On every refusal a result slice of one entry holds 0.
+use mathlib.Core.Bool.{Bool, cond}
+use mathlib.Core.List.{List, [], _∷_}
+use Prim.Native.Nat.{ℕ}
+use lib.Dec.{eqb}
+use lib.ListN.{length}
+use Rattle.bits.specs.Refusal as refusal
+use Rattle.bits.specs.declared.answer.Answer.{Answer}
+use Rattle.sheet.specs.Sheet.{checkOf}
+
+-- a call that refuses neither with 1 nor with 2: the result slice of n entries is looked at first
+unfoldable pub lengthFirst : ℕ → Answer → ℕ
+lengthFirst n a = cond (eqb n 1) (a .refusal) refusal.wrongLength
+
+-- a call that refuses with 2 where its numbers are not in range: that comes before the length
+unfoldable pub rangeFirst : Bool → ℕ → Answer → ℕ
+rangeFirst inRange n a = cond (eqb n 1) (a .refusal) (cond inRange refusal.wrongLength refusal.outOfRange)
+
+-- the result slice afterwards
+unfoldable pub returned : ℕ → List ℕ → List ℕ
+returned value slot = cond (eqb (length slot) 1) (value ∷ []) slot
+
+-- a buffer of the call, which is not called where the result slice has a wrong length
+unfoldable pub ifCalled : ℕ → List ℕ → List ℕ → List ℕ
+ifCalled n after before = cond (eqb n 1) after before
+
+-- ---- six counts under a sheet: 1 and 2 come before the length
+
+unfoldable pub sheetFirst : List ℕ → ℕ → ℕ → ℕ
+sheetFirst sheet n number =
+    cond (eqb n 6) number (cond (eqb (checkOf sheet) refusal.accepted) refusal.wrongLength (checkOf sheet))
+
+unfoldable pub returnedSix : List ℕ → List ℕ → List ℕ
+returnedSix values slot = cond (eqb (length slot) 6) values slot

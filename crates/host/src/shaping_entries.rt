@@ -1,0 +1,75 @@
+// Exponents: extraction, shaping, the number of groups, the choice of a strategy.
+ghost use mathlib.Core.Path.{_≡_};
+ghost use lib.Dec.{leb};
+ghost use lib.ListN.{length};
+ghost use Rattle.shaping.specs.Extract.{extracted};
+ghost use Rattle.shaping.specs.Groups.{groupsAnswer};
+ghost use Rattle.shaping.specs.Passes.{isSpan, preprocessRefusal, preprocessed, quantiseRefusal, quantised};
+ghost use Rattle.shaping.specs.Strategies.{pickAnswer};
+ghost use Rattle.host.specs.Entries.{lengthFirst, rangeFirst, returned};
+ghost use mathlib.Core.Bool.{_&&_};
+use crate::results::return_byte;
+use crate::results::return_count;
+use bits::refusal::OUT_OF_RANGE;
+use bits::refusal::WRONG_LENGTH;
+
+#[no_mangle]
+pub extern "C" fn ac3_extract_exponent(x: f32, exponent: &mut [u8]) -> u32
+    ensures { λ r. ⌜ r ≡ lengthFirst (length (now (exponent .entry))) (extracted x) ⌝ }
+    ensures { λ _. ⌜ now (exponent .exit) ≡ returned (extracted x .value) (now (exponent .entry)) ⌝ }
+{
+    if exponent.len() != 1 {
+        return WRONG_LENGTH;
+    }
+    let answer = shaping::extract_exponent(x);
+    return_byte(exponent, answer.value as u8);
+    answer.refusal
+}
+
+#[no_mangle]
+pub extern "C" fn ac3_preprocess_d15(exp: &mut [u8]) -> u32
+    ensures { λ r. ⌜ r ≡ preprocessRefusal (now (exp .entry)) ⌝ }
+    ensures { λ _. ⌜ now (exp .exit) ≡ preprocessed (now (exp .entry)) ⌝ }
+{
+    shaping::preprocess_d15(exp)
+}
+
+#[no_mangle]
+pub extern "C" fn ac3_quantise_exponents_to_grpsize(exp: &mut [u8], grpsize: usize) -> u32
+    ensures { λ r. ⌜ r ≡ quantiseRefusal grpsize (now (exp .entry)) ⌝ }
+    ensures { λ _. ⌜ now (exp .exit) ≡ quantised grpsize (now (exp .entry)) ⌝ }
+{
+    shaping::quantise_exponents_to_grpsize(exp, grpsize)
+}
+
+#[no_mangle]
+pub extern "C" fn ac3_ngrps_for_strategy(end: usize, grpsize: usize, groups: &mut [u32]) -> u32
+    ensures { λ r. ⌜ r ≡ rangeFirst (leb end 256 && isSpan grpsize) (length (now (groups .entry))) (groupsAnswer end grpsize) ⌝ }
+    ensures { λ _. ⌜ now (groups .exit) ≡ returned (groupsAnswer end grpsize .value) (now (groups .entry)) ⌝ }
+{
+    if groups.len() != 1 {
+        if (end <= 256) & shaping::is_span(grpsize) {
+            return WRONG_LENGTH;
+        }
+        return OUT_OF_RANGE;
+    }
+    let answer = shaping::ngrps_for_strategy(end, grpsize);
+    return_count(groups, answer.value);
+    answer.refusal
+}
+
+#[no_mangle]
+pub extern "C" fn ac3_pick_strategy_for_block(exp: &[u8], end: usize, strategy: &mut [u8]) -> u32
+    ensures { λ r. ⌜ r ≡ rangeFirst (leb end 256) (length (now (strategy .entry))) (pickAnswer (now (exp .entry)) end) ⌝ }
+    ensures { λ _. ⌜ now (strategy .exit) ≡ returned (pickAnswer (now (exp .entry)) end .value) (now (strategy .entry)) ⌝ }
+{
+    if strategy.len() != 1 {
+        if end <= 256 {
+            return WRONG_LENGTH;
+        }
+        return OUT_OF_RANGE;
+    }
+    let answer = shaping::pick_strategy_for_block(exp, end);
+    return_byte(strategy, answer.value as u8);
+    answer.refusal
+}

@@ -1,0 +1,11 @@
+pub mod Answers
+pub mod Arrays
+pub mod Joining
+pub mod Checking
+pub mod Clearing
+pub mod Counting
+pub mod GroupReading
+pub mod Grouping
+pub mod Reading
+pub mod Values
+pub mod Writing

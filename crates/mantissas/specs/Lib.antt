@@ -1,0 +1,14 @@
+pub mod Ranges
+pub mod State
+pub mod Digits
+pub mod Stream
+pub mod CodedLaws
+pub mod ReadBack
+pub mod InRange
+pub mod Count
+pub mod Cases
+pub mod Calls
+pub mod Inner
+pub mod Blocks
+pub mod BlocksLaws
+pub mod BapZero

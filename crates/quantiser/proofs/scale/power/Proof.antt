@@ -1,0 +1,13 @@
+use borrow.Author.Needs.{needs}
+use Rattle.quantiser.specs.ScaleLaws.{power-is}
+use Rattle.quantiser.proofs.scale.power.Statement.{statement}
+use Rattle.quantiser.proofs.scale.power.Tie as tie
+
+shl-result : tie.Need-shl-result
+shl-result c = search needs
+
+returns : tie.Need-returns
+returns c = power-is (c .args .k) (c .pre)
+
+pub power-spec : {M : Type 1} → statement M
+power-spec = tie.close (tie.spec shl-result returns)

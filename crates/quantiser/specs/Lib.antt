@@ -1,0 +1,9 @@
+pub mod Scale
+pub mod Symmetric
+pub mod Asymmetric
+pub mod Code
+pub mod Values
+pub mod ScaleLaws
+pub mod AsymmetricLaws
+pub mod CodeLaws
+pub mod Cases

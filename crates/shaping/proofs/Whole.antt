@@ -1,0 +1,69 @@
+-- The passes one after the other are the whole of each call.
+use mathlib.Core.Path.{_≡_, refl, _∙_}
+use mathlib.Core.Bool.{Bool, true, false, _||_}
+use mathlib.Core.List.{List, [], _∷_, _++_}
+use mathlib.Core.Logic.{_⊎_, inl, inr, ⊎-elim}
+use Prim.Native.Nat.{ℕ, zero, suc, _≤_, _<_, min}
+use native.Mathlib.Omega.{arith}
+use borrow.Author.Tests.{eqb-true}
+use lib.Dec.{eqb}
+use lib.ListN.{length, take, drop, getD, set}
+use Rattle.shaping.specs.Passes.{roof, backward, forward, first, led, d15, merged, lowerSpans, spanned, isSpan}
+
+pub first-alone : (xs : List ℕ) (x : ℕ) → length xs < 2 → x ≡ min (getD xs 0 0) 15 → x ≡ first (getD xs 0 0) (drop 1 xs)
+first-alone [] x h e = e
+first-alone (y ∷ []) x h e = e
+first-alone (y ∷ z ∷ r) x h e = absurd (omega arith)
+
+pub first-before : (xs : List ℕ) (x v w : ℕ) → 2 ≤ length xs → x ≡ min (getD xs 0 0) 15 → w ≡ roof (getD xs 1 0) → v ≡ min x w
+    → v ≡ first (getD xs 0 0) (drop 1 xs)
+first-before [] x v w h a b c = absurd (omega arith)
+first-before (y ∷ []) x v w h a b c = absurd (omega arith)
+first-before (y ∷ z ∷ r) x v w h a b c = omega arith
+
+pub led-none : (xs : List ℕ) (h : ℕ) → length xs ≡ 0 → xs ≡ led h xs
+unfolding led
+led-none [] h e = refl
+led-none (x ∷ r) h e = absurd (omega arith)
+
+pub led-all : (xs z : List ℕ) (h p : ℕ) → z ≡ take 1 (set xs 0 p) ++ forward h 0 p (drop 1 (set xs 0 p)) → p ≡ first (getD xs 0 0) (drop 1 xs) → 0 < length xs
+    → z ≡ led h xs
+unfolding led
+led-all [] z h p d e l = absurd (omega arith)
+led-all (x ∷ r) z h p d e l = d ∙ rw e
+
+pub d15-all : (xs e z : List ℕ) → e ≡ take 1 xs ++ backward (drop 1 xs) → z ≡ led 0 e → z ≡ d15 xs
+unfolding d15
+d15-all [] e z a b = b ∙ rw a (unfold backward led in refl)
+d15-all (x ∷ r) e z a b = b ∙ rw a
+
+pub spanned-one : (xs : List ℕ) (h : ℕ) → h ≡ 0 → xs ≡ spanned h xs
+unfolding spanned
+spanned-one xs h e = rw e
+
+pub spanned-short : (xs : List ℕ) (h : ℕ) → length xs < 2 → xs ≡ spanned h xs
+unfolding spanned
+spanned-short xs zero q = refl
+spanned-short [] (suc h) q = refl
+spanned-short (x ∷ []) (suc h) q = refl
+spanned-short (x ∷ y ∷ r) (suc h) q = absurd (omega arith)
+
+pub spanned-all : (xs m e z : List ℕ) (h : ℕ) → m ≡ take 1 xs ++ merged h 0 0 (drop 1 xs) → e ≡ take 1 m ++ lowerSpans h (drop 1 m)
+    → z ≡ led h e → 2 ≤ length xs → 0 < h → z ≡ spanned h xs
+unfolding spanned
+spanned-all [] m e z h a b c l k = absurd (omega arith)
+spanned-all (x ∷ []) m e z h a b c l k = absurd (omega arith)
+spanned-all (x ∷ y ∷ r) m e z zero a b c l k = absurd (omega arith)
+spanned-all (x ∷ y ∷ r) m e z (suc h) a b c l k = c ∙ rw (b, a)
+
+-- ---- the calls
+
+or-true : (a b : Bool) → (a || b) ≡ true → (a ≡ true) ⊎ (b ≡ true)
+or-true true b e = inl refl
+or-true false b e = inr e
+
+pub span-is : (span : ℕ) → isSpan span ≡ true → (1 ≤ span) × (span ≤ 4)
+span-is span e =
+    ⊎-elim (λ a. let z = eqb-true span 1 a in (omega arith, omega arith))
+    (λ a. ⊎-elim (λ b. let z = eqb-true span 2 b in (omega arith, omega arith)) (λ b. let z = eqb-true span 4 b in (omega arith, omega arith))
+    (or-true (eqb span 2) (eqb span 4) a)) (or-true (eqb span 1) (eqb span 2 || eqb span 4) e)

@@ -1,0 +1,14 @@
+pub mod Shaped
+pub mod Passes
+pub mod Greatest
+pub mod PassLaws
+pub mod MergeLaws
+pub mod SpansGreatest
+pub mod ShapedLaws
+pub mod Extract
+pub mod FloatLaws
+pub mod ExtractLaws
+pub mod Groups
+pub mod Strategies
+pub mod StrategyLaws
+pub mod Cases

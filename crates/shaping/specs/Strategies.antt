@@ -1,0 +1,66 @@
+-- Which strategy a block's exponents are given, and the strategies of a frame (document 01, `pick_strategy_for_block`, `select_exp_strategies_per_end`).
+use mathlib.Core.Bool.{Bool, true, cond, _&&_}
+use mathlib.Core.List.{List, [], _∷_}
+use Prim.Native.Nat.{ℕ, _+_, _-_, _*_, _/_}
+use lib.Dec.{eqb, leb, ltb}
+use lib.ListN.{length, take, drop, getD, replicate}
+use Rattle.bits.specs.Answer.{gives, turnedBack}
+use Rattle.bits.specs.Parts.{tab, piece}
+use Rattle.bits.specs.Refusal as refusal
+use Rattle.bits.specs.declared.answer.Answer.{Answer}
+use Rattle.shaping.specs.Passes.{merged}
+
+-- ---- one block
+
+-- how far the bins of xs go down where they become those of ys
+unfoldable pub lost : List ℕ → List ℕ → ℕ
+lost [] ys = 0
+lost (x ∷ xs) [] = 0
+lost (x ∷ xs) (y ∷ ys) = (x - y) + lost xs ys
+
+-- the cost of a strategy whose span is h + 1: how far the bins from bin 1 on go down where each span becomes its least
+unfoldable pub cost : ℕ → List ℕ → ℕ
+cost h exp = lost (drop 1 exp) (merged h 0 0 (drop 1 exp))
+
+-- the cost in hundredths for each bin from bin 1 on, cut to whole
+abbrev pub perBin : ℕ → List ℕ → ℕ
+perBin h exp = cost h exp * 100 / (length exp - 1)
+
+-- of the exponents below end: up to one bin gives D15; D45 at most 50 gives D45, else D25 at most 75 gives D25, else D15
+unfoldable pub picked : List ℕ → ℕ
+picked exp = cond (leb (length exp) 1) 1 (cond (leb (perBin 3 exp) 50) 3 (cond (leb (perBin 1 exp) 75) 2 1))
+
+-- the answer of `pick_strategy_for_block`
+unfoldable pub pickAnswer : List ℕ → ℕ → Answer
+pickAnswer exp end =
+    cond (leb end 256)
+    (cond (leb (length exp) 256 && leb end (length exp)) (gives (picked (take end exp))) (turnedBack refusal.wrongLength))
+    (turnedBack refusal.outOfRange)
+
+-- ---- the frame: an end for each channel, and the whole exponent buffer
+
+unfoldable pub endsHeld : List ℕ → Bool
+endsHeld [] = true
+endsHeld (end ∷ ends) = leb end 256 && endsHeld ends
+
+abbrev pub selectRefusal : List ℕ → List ℕ → ℕ
+selectRefusal exps ends =
+    cond (leb 1 (length ends) && (leb (length ends) 6 && endsHeld ends))
+    (cond (eqb (length exps) (6 * length ends * 256)) refusal.accepted refusal.wrongLength)
+    refusal.outOfRange
+
+-- the exponents of a channel in a block, below its end: its part starts at 256 × (channels × block + channel)
+unfoldable pub blockOf : List ℕ → List ℕ → ℕ → ℕ → List ℕ
+blockOf exps ends block channel = take (getD ends channel 0) (piece 256 (length ends * block + channel) exps)
+
+-- a channel's strategies by block: picked in blocks 0 and 3, reuse in the other four
+unfoldable pub strategyRow : List ℕ → List ℕ → ℕ → List ℕ
+strategyRow exps ends channel =
+    cond (ltb channel (length ends))
+    (picked (blockOf exps ends 0 channel) ∷ 0 ∷ 0 ∷ picked (blockOf exps ends 3 channel) ∷ 0 ∷ 0 ∷ [])
+    (replicate 6 0)
+
+-- the strategies, channel by block; 0 for a channel that is not there, and all 0 where the call is refused
+unfoldable pub selected : List ℕ → List ℕ → List (List ℕ)
+selected exps ends =
+    cond (eqb (selectRefusal exps ends) refusal.accepted) (tab 6 (strategyRow exps ends)) (replicate 6 (replicate 6 0))

@@ -1,0 +1,58 @@
+-- The structure of a track sheet, document 01, "The track sheet": the bytes before the records, the length, the version,
+-- and the records counted off until the length is used up, nseg taken as it is written, before any range is looked at.
+-- A sheet is a list of bytes; what is read past the end of a list is 0.
+use Prim.Native.Nat.{ℕ, zero, suc, _+_, _-_, _*_, _≤_, _<_}
+use mathlib.Core.Path.{_≡_}
+use mathlib.Core.List.{List, [], _∷_}
+use mathlib.Core.Bool.{Bool, true, _&&_}
+use lib.ListN.{length, getD, take, drop}
+use lib.Dec.{leb, eqb}
+
+-- the records start after twelve bytes
+abbrev pub headSize : ℕ
+headSize = 12
+
+-- the length, two bytes, counts what follows it
+abbrev pub lengthOf : List ℕ → ℕ
+lengthOf s = 256 * getD s 0 0 + getD s 1 0
+
+abbrev pub versionOf : List ℕ → ℕ
+versionOf s = getD s 2 0
+
+-- the bytes of the record that l begins with: eleven, and three for each of its nseg segments
+abbrev pub recordSize : List ℕ → ℕ
+recordSize l = 11 + 3 * getD l 10 0
+
+-- the records that stand in a list of bytes, after k bytes that still belong to the record before them;
+-- where the bytes end too early, the last record is cut short
+abbrev pub countOff : ℕ → List ℕ → List (List ℕ)
+countOff k [] = []
+countOff zero (x ∷ xs) = take (recordSize (x ∷ xs)) (x ∷ xs) ∷ countOff (recordSize (x ∷ xs) - 1) xs
+countOff (suc k) (x ∷ xs) = countOff k xs
+
+abbrev pub recordsFrom : List ℕ → ℕ → List (List ℕ)
+recordsFrom s at = countOff 0 (drop at s)
+
+-- the records of a sheet, each as its bytes, in the order in which they stand
+abbrev pub recordsOf : List ℕ → List (List ℕ)
+recordsOf s = recordsFrom s headSize
+
+abbrev pub every : (List ℕ → Bool) → List (List ℕ) → Bool
+every f [] = true
+every f (r ∷ rs) = f r && every f rs
+
+-- the record is not cut short
+abbrev pub isWhole : List ℕ → Bool
+isWhole r = eqb (length r) (recordSize r)
+
+abbrev pub lengthMatches : List ℕ → Bool
+lengthMatches s = leb headSize (length s) && eqb (length s) (2 + lengthOf s)
+
+abbrev pub structured : List ℕ → Bool
+structured s = lengthMatches s && eqb (versionOf s) 1 && every isWhole (recordsOf s)
+
+-- r is where the record that starts at `at` ends
+pub record EndsAt (s : List ℕ) (at r : ℕ) : Type 0 where
+  pub more : at < r
+  pub within : r ≤ length s
+  pub split : recordsFrom s at ≡ take (r - at) (drop at s) ∷ recordsFrom s r

@@ -1,0 +1,12 @@
+pub mod Grammar
+pub mod Common
+pub mod Record
+pub mod Ranges
+pub mod Sheet
+pub mod Layout
+pub mod Settings
+pub mod Legal
+pub mod Tests
+pub mod InRange
+pub mod Laws
+pub mod Reordering

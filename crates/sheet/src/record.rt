@@ -1,0 +1,208 @@
+// A channel's record by value, and what the frame takes as tables: the strategies and the ends of all channels.
+ghost use mathlib.Core.Path.{_≡_};
+ghost use Prim.Native.Nat.{_<_};
+ghost use Rattle.sheet.specs.Record.{
+  blockOf,
+  blockSet,
+  blocksOf,
+  columnOf,
+  channelRecord,
+  endOf,
+  endsOf,
+  recordBytes,
+  recordOf,
+  spanOf,
+  strategiesOf,
+  strategyOf,
+  strategyRow,
+};
+use crate::read::HEAD_SIZE;
+use crate::read::byte_at;
+use crate::read::record_end;
+use crate::read::wide;
+
+// The exponents of a block: those of the block before, or a new set with its span.
+pub enum ExponentSet {
+    Reuse,
+    New(u8),
+}
+
+pub struct BlockSet {
+    pub set: ExponentSet,
+}
+
+// The segments that are not there are 0.
+pub struct ChannelRecord {
+    pub channel: u8,
+    pub end: u8,
+    pub blocks: [BlockSet; 6],
+    pub fsnroffst: u8,
+    pub fgaincod: u8,
+    pub nseg: u8,
+    pub offst: [u8; 8],
+    pub len: [u8; 8],
+    pub ba: [u8; 8],
+}
+
+// 0 reuse, 1 D15, 2 D25, 3 D45.
+fn block_set(strategy: u8) -> BlockSet
+    ensures { λ r. ⌜ r ≡ blockSet strategy ⌝ }
+{
+    let set = match strategy {
+        0 => ExponentSet::Reuse,
+        1 => ExponentSet::New(1),
+        2 => ExponentSet::New(2),
+        _ => ExponentSet::New(4),
+    };
+    BlockSet { set: set }
+}
+
+// The span of a new set, 0 for reuse.
+pub fn span_of(block: BlockSet) -> u8
+    ensures { λ r. ⌜ r ≡ spanOf (block .set) ⌝ }
+{
+    let set = block.set;
+    match set {
+        ExponentSet::Reuse => 0,
+        ExponentSet::New(span) => span,
+    }
+}
+
+// The span of a block of a channel, 0 for reuse.
+pub fn block_span(record: ChannelRecord, block: usize) -> u8
+    requires { ⌜ block < 6 ⌝ }
+    ensures { λ r. ⌜ r ≡ spanOf (blockOf «record» block) ⌝ }
+{
+    let blocks = record.blocks;
+    let chosen = blocks[block];
+    span_of(chosen)
+}
+
+fn block_at(bytes: &[u8], block: usize) -> BlockSet
+    requires { ⌜ block < 6 ⌝ }
+    ensures { λ r. ⌜ r ≡ blockSet (strategyOf (now (bytes .entry)) block) ⌝ }
+{
+    block_set(byte_at(bytes, 2 + block))
+}
+
+fn blocks_of(bytes: &[u8]) -> [BlockSet; 6]
+    ensures { λ r. ⌜ r ≡ blocksOf (now (bytes .entry)) ⌝ }
+{
+    [
+        block_at(bytes, 0),
+        block_at(bytes, 1),
+        block_at(bytes, 2),
+        block_at(bytes, 3),
+        block_at(bytes, 4),
+        block_at(bytes, 5),
+    ]
+}
+
+// One value of each of the eight segments: they stand three bytes apart.
+fn column(bytes: &[u8], first: usize) -> [u8; 8]
+    requires { ⌜ first < 14 ⌝ }
+    ensures { λ r. ⌜ r ≡ columnOf (now (bytes .entry)) first ⌝ }
+{
+    [
+        byte_at(bytes, first),
+        byte_at(bytes, first + 3),
+        byte_at(bytes, first + 6),
+        byte_at(bytes, first + 9),
+        byte_at(bytes, first + 12),
+        byte_at(bytes, first + 15),
+        byte_at(bytes, first + 18),
+        byte_at(bytes, first + 21),
+    ]
+}
+
+fn channel_record(bytes: &[u8]) -> ChannelRecord
+    ensures { λ r. ⌜ r ≡ channelRecord (now (bytes .entry)) ⌝ }
+{
+    let blocks = blocks_of(bytes);
+    let offst = column(bytes, 11);
+    let len = column(bytes, 12);
+    let ba = column(bytes, 13);
+    ChannelRecord {
+        channel: byte_at(bytes, 0),
+        end: byte_at(bytes, 1),
+        blocks: blocks,
+        fsnroffst: byte_at(bytes, 8),
+        fgaincod: byte_at(bytes, 9),
+        nseg: byte_at(bytes, 10),
+        offst: offst,
+        len: len,
+        ba: ba,
+    }
+}
+
+// The first record of a channel, as its bytes; none where there is none.
+fn record_bytes(sheet: &[u8], channel: usize) -> &[u8]
+    ensures { λ r. ⌜ now r ≡ recordBytes (now (sheet .entry)) channel ⌝ }
+{
+    let mut at = HEAD_SIZE;
+    while at < sheet.len() {
+        let next = record_end(sheet, at);
+        let bytes = &sheet[at..next];
+        if wide(byte_at(bytes, 0)) == channel {
+            return bytes;
+        }
+        at = next;
+    }
+    &sheet[0..0]
+}
+
+// The record of a channel, whatever the order of the records; all 0 where there is none.
+pub fn record_of(sheet: &[u8], channel: usize) -> ChannelRecord
+    ensures { λ r. ⌜ r ≡ recordOf (now (sheet .entry)) channel ⌝ }
+{
+    channel_record(record_bytes(sheet, channel))
+}
+
+// The strategies of a channel's six blocks.
+fn strategy_row(sheet: &[u8], channel: usize) -> [u8; 6]
+    ensures { λ r. ⌜ r ≡ strategyRow (recordBytes (now (sheet .entry)) channel) ⌝ }
+{
+    let bytes = record_bytes(sheet, channel);
+    [
+        byte_at(bytes, 2),
+        byte_at(bytes, 3),
+        byte_at(bytes, 4),
+        byte_at(bytes, 5),
+        byte_at(bytes, 6),
+        byte_at(bytes, 7),
+    ]
+}
+
+// The strategies of six channels by six blocks; 0 for a channel that is not there.
+pub fn strategies_of(sheet: &[u8]) -> [[u8; 6]; 6]
+    ensures { λ r. ⌜ r ≡ strategiesOf (now (sheet .entry)) ⌝ }
+{
+    [
+        strategy_row(sheet, 0),
+        strategy_row(sheet, 1),
+        strategy_row(sheet, 2),
+        strategy_row(sheet, 3),
+        strategy_row(sheet, 4),
+        strategy_row(sheet, 5),
+    ]
+}
+
+fn end_of(sheet: &[u8], channel: usize) -> usize
+    ensures { λ r. ⌜ r ≡ endOf (recordBytes (now (sheet .entry)) channel) ⌝ }
+{
+    wide(byte_at(record_bytes(sheet, channel), 1))
+}
+
+// The ends of six channels; 0 for a channel that is not there.
+pub fn ends_of(sheet: &[u8]) -> [usize; 6]
+    ensures { λ r. ⌜ r ≡ endsOf (now (sheet .entry)) ⌝ }
+{
+    [
+        end_of(sheet, 0),
+        end_of(sheet, 1),
+        end_of(sheet, 2),
+        end_of(sheet, 3),
+        end_of(sheet, 4),
+        end_of(sheet, 5),
+    ]
+}
