@@ -2,7 +2,7 @@
  * target/staticlib/libhost.a.
  *
  * Each answers 0 or the number of a refusal (docs/CALLS.md). A slice is a pointer, then its length in elements.
- * The small result slices (exponent, groups, bits, strategy, code, counts) have exactly the length
+ * The small result slices (exponent, groups, bits, strategy, strategies, code, counts) have exactly the length
  * named; another length is 10. On every refusal a result slice of the right length holds 0. */
 #ifndef AC3CORE_H
 #define AC3CORE_H
@@ -22,6 +22,7 @@ uint32_t ac3_ngrps_for_strategy(size_t end, size_t grpsize, uint32_t *groups, si
 uint32_t ac3_write_exponents_grouped(uint8_t *out, size_t n, const uint8_t *exp, size_t m, size_t end, size_t grpsize, uint32_t *bits, size_t one);
 uint32_t ac3_read_exponents_grouped(const uint8_t *input, size_t n, uint8_t *exp, size_t m, size_t end, size_t grpsize, uint32_t *bits, size_t one);
 uint32_t ac3_pick_strategy_for_block(const uint8_t *exp, size_t n, size_t end, uint8_t *strategy, size_t one);
+uint32_t ac3_select_exp_strategies_per_end(const uint8_t *exps, size_t n, const uint16_t *ends, size_t channels, uint8_t *strategies, size_t six_times_channels);
 uint32_t ac3_quantise_mantissa(float coeff, uint32_t exp, uint32_t bap, uint16_t *code, size_t one);
 uint32_t ac3_write_mantissa_stream(uint8_t *out, size_t n, const uint8_t *bap, size_t m, const uint16_t *codes, size_t k, uint32_t *bits, size_t one);
 uint32_t ac3_read_mantissa_stream(const uint8_t *input, size_t n, const uint8_t *bap, size_t m, uint16_t *codes, size_t k, uint32_t *bits, size_t one);

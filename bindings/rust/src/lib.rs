@@ -16,6 +16,9 @@ extern "C" {
         input: *const u8, n: usize, exp: *mut u8, m: usize, end: usize, grpsize: usize, bits: *mut u32, one: usize,
     ) -> u32;
     fn ac3_pick_strategy_for_block(exp: *const u8, n: usize, end: usize, strategy: *mut u8, one: usize) -> u32;
+    fn ac3_select_exp_strategies_per_end(
+        exps: *const u8, n: usize, ends: *const u16, channels: usize, strategies: *mut u8, six_times_channels: usize,
+    ) -> u32;
     fn ac3_quantise_mantissa(coeff: f32, exp: u32, bap: u32, code: *mut u16, one: usize) -> u32;
     fn ac3_write_mantissa_stream(
         out: *mut u8, n: usize, bap: *const u8, m: usize, codes: *const u16, k: usize, bits: *mut u32, one: usize,
@@ -100,6 +103,17 @@ pub fn pick_strategy_for_block(exp: &[u8], end: usize) -> Answer<u8> {
     let mut strategy = [0u8];
     let number = unsafe { ac3_pick_strategy_for_block(exp.as_ptr(), exp.len(), end, strategy.as_mut_ptr(), 1) };
     answer(number, strategy[0])
+}
+
+/// The strategies of a frame, six for each channel, from its exponents and an end for each channel.
+pub fn select_exp_strategies_per_end(exps: &[u8], ends: &[u16]) -> Answer<Vec<[u8; 6]>> {
+    let mut strategies = vec![[0u8; 6]; ends.len()];
+    let number = unsafe {
+        ac3_select_exp_strategies_per_end(
+            exps.as_ptr(), exps.len(), ends.as_ptr(), ends.len(), strategies.as_mut_ptr().cast(), 6 * ends.len(),
+        )
+    };
+    answer(number, strategies)
 }
 
 /// The code of a coefficient at an exponent and a bap.

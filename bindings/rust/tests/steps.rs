@@ -61,3 +61,12 @@ fn mantissas_of_the_papers_edges() {
     assert_eq!(read_mantissa_stream(&[0b1101_1000], &[1], &mut codes[..1]), Err(Refusal(9)));
     assert_eq!(codes[0], 0);
 }
+
+#[test]
+fn strategies_of_two_channels() {
+    let exps = [3u8; 6 * 2 * 256];
+    assert_eq!(select_exp_strategies_per_end(&exps, &[253, 7]), Ok(vec![[3, 0, 0, 3, 0, 0]; 2]));
+    assert_eq!(select_exp_strategies_per_end(&exps, &[257, 7]), Err(Refusal(2)));
+    assert_eq!(select_exp_strategies_per_end(&exps, &[]), Err(Refusal(2)));
+    assert_eq!(select_exp_strategies_per_end(&exps[1..], &[253, 7]), Err(Refusal(10)));
+}

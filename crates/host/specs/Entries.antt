@@ -1,12 +1,14 @@
 -- What an entry for hosts answers, given the answer of the call behind it. A result slice has exactly one entry; another length is a wrong length,
 -- which stands in document 01's order after 1 and 2 and before 3. On every refusal a result slice of one entry holds 0.
-use mathlib.Core.Bool.{Bool, cond}
+use mathlib.Core.Bool.{Bool, cond, _&&_}
 use mathlib.Core.List.{List, [], _∷_}
-use Prim.Native.Nat.{ℕ}
+use Prim.Native.Nat.{ℕ, _/_, _%_}
 use lib.Dec.{eqb}
-use lib.ListN.{length}
+use lib.ListN.{length, getD, replicate}
+use Rattle.bits.specs.Parts.{joined, tab}
 use Rattle.bits.specs.Refusal as refusal
 use Rattle.bits.specs.declared.answer.Answer.{Answer}
+use Rattle.shaping.specs.Strategies.{selectRefusal, selected}
 use Rattle.sheet.specs.Sheet.{checkOf}
 
 -- a call that refuses neither with 1 nor with 2: the result slice of n entries is looked at first
@@ -33,3 +35,22 @@ sheetFirst sheet n number =
 
 unfoldable pub returnedSix : List ℕ → List ℕ → List ℕ
 returnedSix values slot = cond (eqb (length slot) 6) values slot
+
+-- ---- strategies, channel by block: a channel count or an end out of range comes before the length, which is six for each channel
+
+-- the first rows of a table of six columns, one after the other
+unfoldable pub rowsOf : List (List ℕ) → ℕ → List ℕ
+rowsOf table rows = joined rows (λ c. tab 6 (λ b. getD (getD table c []) b 0))
+
+abbrev pub sixEach : ℕ → List ℕ → Bool
+sixEach n ends = eqb (n % 6) 0 && eqb (n / 6) (length ends)
+
+unfoldable pub selectNumber : List ℕ → List ℕ → ℕ → ℕ
+selectNumber exps ends n =
+    cond (sixEach n ends) (selectRefusal exps ends) (cond (eqb (selectRefusal exps ends) refusal.outOfRange) refusal.outOfRange refusal.wrongLength)
+
+unfoldable pub selectRows : List ℕ → List ℕ → List ℕ → List ℕ
+selectRows exps ends slot =
+    cond (sixEach (length slot) ends)
+    (cond (eqb (selectRefusal exps ends) refusal.accepted) (rowsOf (selected exps ends) (length ends)) (replicate (length slot) 0))
+    slot

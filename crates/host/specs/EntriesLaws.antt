@@ -1,13 +1,13 @@
 -- Laws of the entries: one for each way through them.
 use mathlib.Core.Path.{_≡_, refl, sym, ap, _∙_}
 use mathlib.Core.Bool.{Bool, true, false, not, cond}
-use mathlib.Core.List.{List, [], _∷_}
-use Prim.Native.Nat.{ℕ, _+_, _≤_, _<_}
+use mathlib.Core.List.{List, [], _∷_, _++_}
+use Prim.Native.Nat.{ℕ, zero, suc, _+_, _≤_, _<_}
 use native.Mathlib.Omega.{arith}
 use borrow.Author.Tests.{eq-eqb, ne-eqb}
 use native.Mathlib.Numerals.{add-one}
 use lib.Dec.{eqb}
-use lib.ListN.{length, getD, set, take}
+use lib.ListN.{length, getD, set, take, replicate}
 use lib.Seq.{take-suc, take-suc-set, take-all}
 use Rattle.bits.specs.Answer.{outputOf}
 use Rattle.bits.specs.Parts.{joined, tab}
@@ -16,11 +16,12 @@ use Rattle.bits.specs.Refusal as refusal
 use Rattle.bits.specs.declared.answer.Answer.{Answer}
 use Rattle.mantissas.specs.Blocks.{blockBaps, noBits, blocksAnswer, totalAnswer}
 use Rattle.mantissas.specs.Stream.{bapsFit, bitCount}
+use Rattle.shaping.specs.Strategies.{selectRefusal, selected}
 use Rattle.sheet.specs.Common.{commonOf, channelsOf}
 use Rattle.sheet.specs.Layout.{bufferLength}
 use Rattle.sheet.specs.Record.{endsOf}
 use Rattle.sheet.specs.Sheet.{checkOf}
-use Rattle.host.specs.Entries.{lengthFirst, rangeFirst, returned, ifCalled, sheetFirst, returnedSix}
+use Rattle.host.specs.Entries.{lengthFirst, rangeFirst, returned, ifCalled, sheetFirst, returnedSix, rowsOf, sixEach, selectNumber, selectRows}
 
 -- a store to the one entry
 pub set-one : (l : List ℕ) (v : ℕ) → length l ≡ 1 → set l 0 v ≡ v ∷ []
@@ -115,3 +116,39 @@ counts-six sheet bap =
     by-tests false true c = refl
     by-tests false false true = refl
     by-tests false false false = length-tab 6 (λ block. bitCount (blockBaps (channelsOf (commonOf sheet)) (endsOf sheet) bap block))
+
+-- ---- zeros, entry by entry
+
+replicate-more : (n : ℕ) → _++_ {A = ℕ} (replicate n 0) (0 ∷ []) ≡ replicate (suc n) 0
+replicate-more zero = refl
+replicate-more (suc n) = ap (λ (l : List ℕ). 0 ∷ l) (replicate-more n)
+
+pub zeros-more : (l : List ℕ) (i : ℕ) → i < length l → take i l ≡ replicate i 0 → take (i + 1) (set l i 0) ≡ replicate (i + 1) 0
+zeros-more l i h e = rw (add-one i, take-suc-set l i 0 h, e) (replicate-more i)
+
+pub zeros-all : (l : List ℕ) (i n : ℕ) → i ≡ n → length l ≡ n → take i l ≡ replicate i 0 → l ≡ replicate n 0
+zeros-all l i n q h e = sym (take-all i l (omega arith)) ∙ e ∙ ap (λ (k : ℕ). replicate k 0) q
+
+-- ---- the strategies
+
+module _ (exps ends slot : List ℕ) where
+  pub select-range : sixEach (length slot) ends ≡ false → selectRefusal exps ends ≡ refusal.outOfRange
+      → (refusal.outOfRange ≡ selectNumber exps ends (length slot)) × (slot ≡ selectRows exps ends slot)
+  unfolding selectNumber selectRows
+  select-range h e = (rw (h, eq-eqb (selectRefusal exps ends) 2 e), rw h)
+
+  pub select-length : sixEach (length slot) ends ≡ false → (selectRefusal exps ends ≡ refusal.outOfRange → ⊥)
+      → (refusal.wrongLength ≡ selectNumber exps ends (length slot)) × (slot ≡ selectRows exps ends slot)
+  unfolding selectNumber selectRows
+  select-length h e = (rw (h, ne-eqb (selectRefusal exps ends) 2 e), rw h)
+
+  pub select-refused : (slot' : List ℕ) → sixEach (length slot) ends ≡ true → (selectRefusal exps ends ≡ refusal.accepted → ⊥)
+      → slot' ≡ replicate (length slot) 0 → (selectRefusal exps ends ≡ selectNumber exps ends (length slot)) × (slot' ≡ selectRows exps ends slot)
+  unfolding selectNumber selectRows
+  select-refused slot' h e q = (rw h, rw (h, ne-eqb (selectRefusal exps ends) 0 e) q)
+
+  pub select-accepted : (slot' : List ℕ) → sixEach (length slot) ends ≡ true → selectRefusal exps ends ≡ refusal.accepted
+      → slot' ≡ rowsOf (selected exps ends) (length ends)
+      → (refusal.accepted ≡ selectNumber exps ends (length slot)) × (slot' ≡ selectRows exps ends slot)
+  unfolding selectNumber selectRows
+  select-accepted slot' h e q = (rw h (sym e), rw (h, eq-eqb (selectRefusal exps ends) 0 e) q)

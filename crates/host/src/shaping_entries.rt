@@ -6,10 +6,13 @@ ghost use Rattle.shaping.specs.Extract.{extracted};
 ghost use Rattle.shaping.specs.Groups.{groupsAnswer};
 ghost use Rattle.shaping.specs.Passes.{isSpan, preprocessRefusal, preprocessed, quantiseRefusal, quantised};
 ghost use Rattle.shaping.specs.Strategies.{pickAnswer};
-ghost use Rattle.host.specs.Entries.{lengthFirst, rangeFirst, returned};
+ghost use Rattle.host.specs.Entries.{lengthFirst, rangeFirst, returned, selectNumber, selectRows, sixEach};
 ghost use mathlib.Core.Bool.{_&&_};
 use crate::results::return_byte;
 use crate::results::return_count;
+use crate::results::return_rows;
+use crate::results::return_zeros;
+use bits::refusal::ACCEPTED;
 use bits::refusal::OUT_OF_RANGE;
 use bits::refusal::WRONG_LENGTH;
 
@@ -72,4 +75,36 @@ pub extern "C" fn ac3_pick_strategy_for_block(exp: &[u8], end: usize, strategy: 
     let answer = shaping::pick_strategy_for_block(exp, end);
     return_byte(strategy, answer.value as u8);
     answer.refusal
+}
+
+// Six entries for each channel.
+fn six_each(n: usize, ends: &[u16]) -> bool
+    ensures { λ r. ⌜ r ≡ sixEach n (now (ends .entry)) ⌝ }
+{
+    (n % 6 == 0) & (n / 6 == ends.len())
+}
+
+#[no_mangle]
+pub extern "C" fn ac3_select_exp_strategies_per_end(
+    exps: &[u8],
+    ends: &[u16],
+    strategies: &mut [u8],
+) -> u32
+    ensures { λ r. ⌜ r ≡ selectNumber (now (exps .entry)) (now (ends .entry)) (length (now (strategies .entry))) ⌝ }
+    ensures { λ _. ⌜ now (strategies .exit) ≡ selectRows (now (exps .entry)) (now (ends .entry)) (now (strategies .entry)) ⌝ }
+{
+    let number = shaping::select_refusal(exps, ends);
+    if !six_each(strategies.len(), ends) {
+        if number == OUT_OF_RANGE {
+            return OUT_OF_RANGE;
+        }
+        return WRONG_LENGTH;
+    }
+    if number != ACCEPTED {
+        return_zeros(strategies);
+        return number;
+    }
+    let table = shaping::select_exp_strategies_per_end(exps, ends);
+    return_rows(strategies, table, ends.len());
+    ACCEPTED
 }
