@@ -45,20 +45,20 @@ joined-fits f i n h =
 
 -- ---- tab and piece
 
-pub length-tab : (n : ℕ) (f : ℕ → ℕ) → length (tab n f) ≡ n
+pub length-tab : {A : Type 0} (n : ℕ) (f : ℕ → A) → length (tab n f) ≡ n
 unfolding tab
 length-tab n f = joined-length 1 (λ i. f i ∷ []) n (λ i h. refl) ∙ omega arith
 
-pub tab-start : (f : ℕ → ℕ) (l : List ℕ) → take 0 l ≡ tab 0 f
+pub tab-start : {A : Type 0} (f : ℕ → A) (l : List A) → take 0 l ≡ tab 0 f
 unfolding tab joined
 tab-start f l = refl
 
 -- one more entry stored
-pub tab-more : (f : ℕ → ℕ) (l : List ℕ) (i v : ℕ) → i < length l → take i l ≡ tab i f → v ≡ f i → take (i + 1) (set l i v) ≡ tab (i + 1) f
+pub tab-more : {A : Type 0} (f : ℕ → A) (l : List A) (i : ℕ) (v : A) → i < length l → take i l ≡ tab i f → v ≡ f i → take (i + 1) (set l i v) ≡ tab (i + 1) f
 unfolding tab
 tab-more f l i v h e q = rw (joined-more i (λ i. f i ∷ []), add-one i, take-suc-set l i v, e, q)
 
-pub tab-end : (f : ℕ → ℕ) (l : List ℕ) (i n : ℕ) → i ≡ n → length l ≡ n → take i l ≡ tab i f → l ≡ tab n f
+pub tab-end : {A : Type 0} (f : ℕ → A) (l : List A) (i n : ℕ) → i ≡ n → length l ≡ n → take i l ≡ tab i f → l ≡ tab n f
 tab-end f l i n q h e = sym (take-length l) ∙ ap (λ (m : ℕ). take m l) (h ∙ sym q) ∙ e ∙ ap (λ (m : ℕ). tab m f) q
 
 pub tab-cong : (f g : ℕ → ℕ) (n : ℕ) → ((i : ℕ) → i < n → f i ≡ g i) → tab n f ≡ tab n g

@@ -1,14 +1,17 @@
 -- What an entry for hosts answers, given the answer of the call behind it. A result slice has exactly one entry; another length is a wrong length,
 -- which stands in document 01's order after 1 and 2 and before 3. On every refusal a result slice of one entry holds 0.
-use mathlib.Core.Bool.{Bool, cond, _&&_}
+use mathlib.Core.Bool.{Bool, cond, not, _&&_}
 use mathlib.Core.List.{List, [], _∷_}
 use Prim.Native.Nat.{ℕ, _/_, _%_}
-use lib.Dec.{eqb}
+use lib.Dec.{eqb, ltb}
 use lib.ListN.{length, getD, replicate}
+use Rattle.allocation.specs.Allocation.{answerOf, leftIn}
 use Rattle.bits.specs.Parts.{joined, tab}
 use Rattle.bits.specs.Refusal as refusal
 use Rattle.bits.specs.declared.answer.Answer.{Answer}
 use Rattle.shaping.specs.Strategies.{selectRefusal, selected}
+use Rattle.sheet.specs.Common.{commonOf, channelsOf}
+use Rattle.sheet.specs.Record.{recordOf}
 use Rattle.sheet.specs.Sheet.{checkOf}
 
 -- a call that refuses neither with 1 nor with 2: the result slice of n entries is looked at first
@@ -54,3 +57,18 @@ selectRows exps ends slot =
     cond (sixEach (length slot) ends)
     (cond (eqb (selectRefusal exps ends) refusal.accepted) (rowsOf (selected exps ends) (length ends)) (replicate (length slot) 0))
     slot
+
+-- ---- the allocation of a channel of a sheet: the sheet is looked at, then whether it has that channel; then the call, with the channel's end
+
+unfoldable pub allocationNumber : List ℕ → ℕ → List ℕ → ℕ → ℕ
+allocationNumber sheet channel exp size =
+    cond (not (eqb (checkOf sheet) refusal.accepted)) (checkOf sheet)
+    (cond (not (ltb channel (channelsOf (commonOf sheet)))) refusal.outOfRange
+    (answerOf (commonOf sheet) (recordOf sheet channel) (recordOf sheet channel .end) exp size))
+
+-- bap afterwards: a sheet or a channel that is refused leaves it
+unfoldable pub allocationLeft : List ℕ → ℕ → List ℕ → List ℕ → List ℕ
+allocationLeft sheet channel exp bap =
+    cond (not (eqb (checkOf sheet) refusal.accepted)) bap
+    (cond (not (ltb channel (channelsOf (commonOf sheet)))) bap
+    (leftIn (commonOf sheet) (recordOf sheet channel) (recordOf sheet channel .end) exp bap))

@@ -4,11 +4,12 @@ use mathlib.Core.Bool.{Bool, true, false, not, cond}
 use mathlib.Core.List.{List, [], _∷_, _++_}
 use Prim.Native.Nat.{ℕ, zero, suc, _+_, _≤_, _<_}
 use native.Mathlib.Omega.{arith}
-use borrow.Author.Tests.{eq-eqb, ne-eqb}
+use borrow.Author.Tests.{eq-eqb, ne-eqb, lt-ltb, le-ltb}
 use native.Mathlib.Numerals.{add-one}
 use lib.Dec.{eqb}
 use lib.ListN.{length, getD, set, take, replicate}
 use lib.Seq.{take-suc, take-suc-set, take-all}
+use Rattle.allocation.specs.Allocation.{answerOf, leftIn}
 use Rattle.bits.specs.Answer.{outputOf}
 use Rattle.bits.specs.Parts.{joined, tab}
 use Rattle.bits.specs.PartsLaws.{length-tab}
@@ -19,9 +20,11 @@ use Rattle.mantissas.specs.Stream.{bapsFit, bitCount}
 use Rattle.shaping.specs.Strategies.{selectRefusal, selected}
 use Rattle.sheet.specs.Common.{commonOf, channelsOf}
 use Rattle.sheet.specs.Layout.{bufferLength}
-use Rattle.sheet.specs.Record.{endsOf}
+use Rattle.sheet.specs.Record.{endsOf, recordOf}
 use Rattle.sheet.specs.Sheet.{checkOf}
-use Rattle.host.specs.Entries.{lengthFirst, rangeFirst, returned, ifCalled, sheetFirst, returnedSix, rowsOf, sixEach, selectNumber, selectRows}
+use Rattle.sheet.specs.declared.common_part.Common.{Common}
+use Rattle.sheet.specs.declared.record.ChannelRecord.{ChannelRecord}
+use Rattle.host.specs.Entries.{lengthFirst, rangeFirst, returned, ifCalled, sheetFirst, returnedSix, rowsOf, sixEach, selectNumber, selectRows, allocationNumber, allocationLeft}
 
 -- a store to the one entry
 pub set-one : (l : List ℕ) (v : ℕ) → length l ≡ 1 → set l 0 v ≡ v ∷ []
@@ -152,3 +155,26 @@ module _ (exps ends slot : List ℕ) where
       → (refusal.accepted ≡ selectNumber exps ends (length slot)) × (slot' ≡ selectRows exps ends slot)
   unfolding selectNumber selectRows
   select-accepted slot' h e q = (rw h (sym e), rw (h, eq-eqb (selectRefusal exps ends) 0 e) q)
+
+-- ---- the allocation
+
+module _ (sheet : List ℕ) (channel : ℕ) (exp bap : List ℕ) where
+  pub allocation-sheet : (checkOf sheet ≡ refusal.accepted → ⊥)
+      → (checkOf sheet ≡ allocationNumber sheet channel exp (length bap)) × (bap ≡ allocationLeft sheet channel exp bap)
+  unfolding allocationNumber allocationLeft
+  allocation-sheet h = (rw (ne-eqb (checkOf sheet) 0 h), rw (ne-eqb (checkOf sheet) 0 h))
+
+  pub allocation-channel : checkOf sheet ≡ refusal.accepted → channelsOf (commonOf sheet) ≤ channel
+      → (refusal.outOfRange ≡ allocationNumber sheet channel exp (length bap)) × (bap ≡ allocationLeft sheet channel exp bap)
+  unfolding allocationNumber allocationLeft
+  allocation-channel e h = (rw (eq-eqb (checkOf sheet) 0 e, le-ltb _ _ h), rw (eq-eqb (checkOf sheet) 0 e, le-ltb _ _ h))
+
+  pub allocation-called : (common : Common) (chosen : ChannelRecord) (number : ℕ) (bap' : List ℕ) → checkOf sheet ≡ refusal.accepted
+      → channel < channelsOf (commonOf sheet) → common ≡ commonOf sheet → chosen ≡ recordOf sheet channel
+      → number ≡ answerOf common chosen (chosen .end) exp (length bap) → bap' ≡ leftIn common chosen (chosen .end) exp bap
+      → (number ≡ allocationNumber sheet channel exp (length bap)) × (bap' ≡ allocationLeft sheet channel exp bap)
+  unfolding allocationNumber allocationLeft
+  allocation-called common chosen number bap' e h p q a l =
+      let answer = a ∙ ap (λ (k : Common). answerOf k chosen (chosen .end) exp (length bap)) p ∙ ap (λ (r : ChannelRecord). answerOf (commonOf sheet) r (r .end) exp (length bap)) q in
+      let left = l ∙ ap (λ (k : Common). leftIn k chosen (chosen .end) exp bap) p ∙ ap (λ (r : ChannelRecord). leftIn (commonOf sheet) r (r .end) exp bap) q in
+      (rw (eq-eqb (checkOf sheet) 0 e, lt-ltb _ _ h) answer, rw (eq-eqb (checkOf sheet) 0 e, lt-ltb _ _ h) left)

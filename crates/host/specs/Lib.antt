@@ -1,2 +1,4 @@
 pub mod Entries
 pub mod EntriesLaws
+pub mod FrameEntries
+pub mod FrameEntriesLaws

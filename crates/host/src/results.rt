@@ -36,6 +36,16 @@ pub fn return_counts(slot: &mut [u32], values: &[u32])
     }
 }
 
+// The twelve counts of a frame.
+pub fn return_twelve(slot: &mut [u32], values: [u32; 12])
+    requires { ⌜ length (now slot) ≡ 12 ⌝ }
+    ensures { λ _. ⌜ now (slot .exit) ≡ tab 12 (λ i. getD values i 0) ⌝ }
+{
+    for i in 0..12 {
+        slot[i] = values[i];
+    }
+}
+
 // One row of a table.
 fn return_row(slot: &mut [u8], row: [u8; 6])
     requires { ⌜ length (now slot) ≡ 6 ⌝ }

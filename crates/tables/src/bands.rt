@@ -125,3 +125,17 @@ pub fn bndsz(band: usize) -> u8
 {
     BNDSZ[band]
 }
+
+// The whole table, for a caller that reads many entries: it is then laid out once.
+pub fn bndtab_table() -> [u8; 50]
+    ensures { λ r. ⌜ r ≡ bndtab ⌝ }
+{
+    BNDTAB
+}
+
+// The whole table, for a caller that reads many entries: it is then laid out once.
+pub fn bndsz_table() -> [u8; 50]
+    ensures { λ r. ⌜ r ≡ bndsz ⌝ }
+{
+    BNDSZ
+}

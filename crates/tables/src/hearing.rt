@@ -171,3 +171,11 @@ pub fn hth(fscod: u8, band: usize) -> u16
 {
     HTH[fscod as usize][band]
 }
+
+// The thresholds of all bands at one sampling rate, laid out once.
+pub fn hth_row(fscod: u8) -> [u16; 50]
+    requires { ⌜ fscod < 3 ⌝ }
+    ensures { λ r. ⌜ r ≡ row hth fscod ⌝ }
+{
+    HTH[fscod as usize]
+}

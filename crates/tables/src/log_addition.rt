@@ -270,3 +270,10 @@ pub fn latab(address: usize) -> u8
 {
     LATAB[address]
 }
+
+// The whole table, for a caller that reads many entries: it is then laid out once.
+pub fn latab_table() -> [u8; 256]
+    ensures { λ r. ⌜ r ≡ latab ⌝ }
+{
+    LATAB
+}

@@ -154,3 +154,10 @@ pub fn mant_level(bap: u8, code: u16) -> f32
         _ => MANT_LEVEL_15[k],
     }
 }
+
+// The whole table, for a caller that reads many entries: it is then laid out once.
+pub fn baptab_table() -> [u8; 64]
+    ensures { λ r. ⌜ r ≡ baptab ⌝ }
+{
+    BAPTAB
+}

@@ -1,0 +1,92 @@
+-- The allocation of one channel (000 `compute_bap`, A/52 7.2.2; document 01, "Allocation"), and what the call answers and leaves on every input
+-- (document 01, "When a call is turned back": 2, 10, 4).
+use Prim.Native.Nat.{ℕ, _≤_, _<_}
+use mathlib.Core.Bool.{Bool, true, not, cond, _&&_}
+use mathlib.Core.List.{List}
+use mathlib.Core.Path.{_≡_}
+use lib.Dec.{eqb, leb}
+use lib.IntN.{ℤ, _+ℤ_}
+use lib.ListN.{length, getD}
+use Rattle.bits.specs.Parts.{tab}
+use Rattle.bits.specs.Refusal as refusal
+use Rattle.sheet.specs.Ranges.{allBelow, lfeEnd, legalEnd}
+use Rattle.sheet.specs.declared.common_part.Common.{Common}
+use Rattle.sheet.specs.declared.record.ChannelRecord.{ChannelRecord}
+use Rattle.excitation.specs.BandPsd.{bndpsd}
+use Rattle.excitation.specs.Excitation.{excite}
+use Rattle.masking.specs.Threshold.{maskingCurve}
+use Rattle.masking.specs.Delta.{deltas}
+use Rattle.allocation.specs.Initialization.{leakOf, dbkneeOf, floorOf, snroffsetOf}
+use Rattle.allocation.specs.Bap.{bapOf}
+
+-- mask[band] of a channel with bins 0 .. end - 1; the LFE is the channel whose end is 7
+unfoldable pub maskOf : Common → ChannelRecord → ℕ → List ℕ → ℕ → ℤ
+maskOf common channel end exp band =
+    maskingCurve (excite (leakOf common channel) (lfeEnd end) (bndpsd exp 0 end) band) (bndpsd exp 0 end band) (dbkneeOf common) (common .fscod) band
+    +ℤ deltas (channel .offst) (channel .len) (channel .ba) (channel .nseg) band
+
+-- the bap of n bins, 0 from end on
+unfoldable pub allocated : Common → ChannelRecord → ℕ → List ℕ → ℕ → List ℕ
+allocated common channel end exp n = tab n (bapOf (maskOf common channel end exp) (snroffsetOf common channel) (floorOf common) 0 end exp)
+
+-- what an allocation needs of the codes: all but the segments that are not there are in range
+pub record LegalCodes (common : Common) (channel : ChannelRecord) : Type 0 where
+  pub fscod : common .fscod ≤ 2
+  pub sdcycod : common .sdcycod ≤ 3
+  pub fdcycod : common .fdcycod ≤ 3
+  pub sgaincod : common .sgaincod ≤ 3
+  pub dbpbcod : common .dbpbcod ≤ 3
+  pub floorcod : common .floorcod ≤ 7
+  pub csnroffst : common .csnroffst ≤ 63
+  pub fsnroffst : channel .fsnroffst ≤ 15
+  pub fgaincod : channel .fgaincod ≤ 7
+  pub nseg : channel .nseg ≤ 8
+  pub offst : (i : ℕ) → i < channel .nseg → getD (channel .offst) i 0 ≤ 31
+  pub len : (i : ℕ) → i < channel .nseg → getD (channel .len) i 0 ≤ 15
+  pub ba : (i : ℕ) → i < channel .nseg → getD (channel .ba) i 0 ≤ 7
+
+-- an end that a sheet may hold, exponents up to 24 below it, slices that hold it
+pub record LegalBins (exp : List ℕ) (end size : ℕ) : Type 0 where
+  pub legal : legalEnd end ≡ true
+  pub held : end ≤ length exp
+  pub most : (bin : ℕ) → bin < end → getD exp bin 0 ≤ 24
+  pub room : end ≤ size
+  pub short : size ≤ 256
+
+-- the tests of these, as the call makes them
+unfoldable pub segmentInRange : List ℕ → List ℕ → List ℕ → ℕ → Bool
+segmentInRange offst len ba i = leb (getD offst i 0) 31 && leb (getD len i 0) 15 && leb (getD ba i 0) 7
+
+unfoldable pub commonCodes : Common → Bool
+commonCodes common =
+    leb (common .fscod) 2 && leb (common .sdcycod) 3 && leb (common .fdcycod) 3 && leb (common .sgaincod) 3 && leb (common .dbpbcod) 3
+    && leb (common .floorcod) 7
+    && leb (common .csnroffst) 63
+
+unfoldable pub channelCodes : ChannelRecord → Bool
+channelCodes channel =
+    leb (channel .nseg) 8 && leb (channel .fsnroffst) 15 && leb (channel .fgaincod) 7
+    && allBelow (channel .nseg) (segmentInRange (channel .offst) (channel .len) (channel .ba))
+
+unfoldable pub inRange : Common → ChannelRecord → ℕ → Bool
+inRange common channel end = commonCodes common && channelCodes channel && legalEnd end
+
+-- slices of at most 256 entries that reach to end
+unfoldable pub rightLengths : ℕ → ℕ → ℕ → Bool
+rightLengths end entries size = leb entries 256 && leb size 256 && leb end entries && leb end size
+
+unfoldable pub exponentsFit : List ℕ → ℕ → Bool
+exponentsFit exp end = allBelow end (λ bin. leb (getD exp bin 0) 24)
+
+-- the answer; size is the length of the slice for the bap
+unfoldable pub answerOf : Common → ChannelRecord → ℕ → List ℕ → ℕ → ℕ
+answerOf common channel end exp size =
+    cond (not (inRange common channel end)) refusal.outOfRange
+    (cond (not (rightLengths end (length exp) size)) refusal.wrongLength
+    (cond (not (exponentsFit exp end)) refusal.badExponent
+    refusal.accepted))
+
+-- what the call leaves in the slice: a refused one leaves it as it was
+unfoldable pub leftIn : Common → ChannelRecord → ℕ → List ℕ → List ℕ → List ℕ
+leftIn common channel end exp bap =
+    cond (eqb (answerOf common channel end exp (length bap)) refusal.accepted) (allocated common channel end exp (length bap)) bap

@@ -1,0 +1,72 @@
+-- The allocation as the code has it, over the natural numbers: the floor and what the mask is lowered to are 2048 up, the offset is 960 up.
+-- specs/HeldLaws.antt joins these forms with those of A/52.
+use Prim.Native.Nat.{ℕ, suc, _+_, _-_, _*_, _/_, _%_, min}
+use mathlib.Core.Bool.{cond}
+use mathlib.Core.List.{List}
+use lib.Bits.{bitAnd}
+use lib.Dec.{ltb}
+use lib.ListN.{getD}
+use Rattle.bits.specs.Parts.{tab}
+use Rattle.tables.specs.Bands.{masktab}
+use Rattle.tables.specs.Entry.{entry, row}
+use Rattle.tables.specs.Masking.{hth}
+use Rattle.tables.specs.Parameters.{floortab}
+use Rattle.tables.specs.Quantizer.{baptab}
+use Rattle.sheet.specs.Ranges.{lfeEnd}
+use Rattle.sheet.specs.declared.common_part.Common.{Common}
+use Rattle.sheet.specs.declared.record.ChannelRecord.{ChannelRecord}
+use Rattle.excitation.specs.Psd.{psd}
+use Rattle.excitation.specs.BandPsd.{bndpsd}
+use Rattle.excitation.specs.Held.{after}
+use Rattle.masking.specs.Held.{heldCurve, heldDeltas}
+use Rattle.allocation.specs.Initialization.{leakOf, dbkneeOf}
+use Rattle.allocation.specs.declared.initialization.Parameters.{Parameters}
+
+-- a pattern of 16 bits, 2048 up
+unfoldable pub heldFloor : ℕ → ℕ
+heldFloor pattern = (pattern + 2048) % 65536
+
+unfoldable pub heldOffset : ℕ → ℕ → ℕ
+heldOffset csnroffst fsnroffst = 64 * csnroffst + 4 * fsnroffst
+
+unfoldable pub parametersOf : Common → ChannelRecord → Parameters
+parametersOf common channel =
+    record {
+      leak = leakOf common channel;
+      dbknee = dbkneeOf common;
+      floor = heldFloor (entry floortab (common .floorcod));
+      snroffset = heldOffset (common .csnroffst) (channel .fsnroffst);
+    }
+
+unfoldable pub heldLowered : ℕ → ℕ → ℕ → ℕ
+heldLowered mask snroffset floor = bitAnd (mask + 3008 - (snroffset + floor)) 0x1fe0 + floor
+
+unfoldable pub heldAddress : ℕ → ℕ → ℕ
+heldAddress power level = min ((power + 2048 - level) / 32) 63
+
+-- the bap of a bin by its exponent, where its band's mask was lowered to a level
+unfoldable pub heldBap : ℕ → ℕ → ℕ
+heldBap level exponent = entry baptab (heldAddress (psd exponent) level)
+
+-- what a band's mask is lowered to, from its excitation, its power, its threshold and its delta
+unfoldable pub heldLevel : Parameters → ℕ → ℕ → ℕ → ℕ → ℕ
+heldLevel p excite power threshold added = heldLowered (heldCurve excite power (p .dbknee) threshold + added - 512) (p .snroffset) (p .floor)
+
+-- the level of a band of a channel with bins 0 .. end - 1, from its parameters, its thresholds and its segments
+unfoldable pub levelAt : Parameters → List ℕ → List ℕ → List ℕ → List ℕ → ℕ → ℕ → List ℕ → ℕ → ℕ
+levelAt p thresholds offst len ba nseg end exp band =
+    heldLevel p (after (p .leak) (lfeEnd end) (bndpsd exp 0 end) (suc band) .excite) (bndpsd exp 0 end band) (entry thresholds band)
+    (heldDeltas offst len ba nseg band)
+
+-- the bap of a bin below end
+unfoldable pub bapAt : Parameters → List ℕ → List ℕ → List ℕ → List ℕ → ℕ → ℕ → List ℕ → ℕ → ℕ
+bapAt p thresholds offst len ba nseg end exp bin = heldBap (levelAt p thresholds offst len ba nseg end exp (entry masktab bin)) (getD exp bin 0)
+
+-- with the values of a sheet
+unfoldable pub heldBelow : Common → ChannelRecord → ℕ → List ℕ → ℕ → ℕ
+heldBelow common channel end exp =
+    bapAt (parametersOf common channel) (row hth (common .fscod)) (channel .offst) (channel .len) (channel .ba) (channel .nseg) end exp
+
+-- and of any bin
+unfoldable pub heldBin : Common → ChannelRecord → ℕ → List ℕ → ℕ → ℕ
+heldBin common channel end exp bin = cond (ltb bin end) (heldBelow common channel end exp bin) 0

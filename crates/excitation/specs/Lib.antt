@@ -1,0 +1,10 @@
+pub mod Psd
+pub mod Signed
+pub mod SignedLaws
+pub mod BandPsd
+pub mod BandPsdLaws
+pub mod AllBands
+pub mod Excitation
+pub mod Held
+pub mod Lent
+pub mod Cases

@@ -1,0 +1,85 @@
+-- What the frame's calls answer and leave (document 01, "When a call is turned back"): the tests in the table's order.
+use Prim.Native.Nat.{ℕ, _-_}
+use mathlib.Core.Bool.{Bool, not, cond, _&&_}
+use mathlib.Core.List.{List, _++_}
+use lib.Dec.{eqb, ltb}
+use lib.ListN.{length, replicate}
+use Rattle.bits.specs.Answer.{stored}
+use Rattle.bits.specs.Bytes.{bytesFor}
+use Rattle.bits.specs.Reading.{Outcome, ok, fault}
+use Rattle.bits.specs.Refusal as refusal
+use Rattle.sheet.specs.Layout.{bufferLength}
+use Rattle.sheet.specs.Sheet.{checkOf}
+use Rattle.frame.specs.Layout.{channels}
+use Rattle.frame.specs.Body.{bodyBits, countsOf}
+use Rattle.frame.specs.Legal.{expsLegal, codesLegal}
+use Rattle.frame.specs.Reader.{Frame, readFrame}
+use Rattle.frame.specs.declared.answer.FrameAnswer.{FrameAnswer}
+
+-- accepted, with the twelve counts and the bits of the body
+abbrev pub gives : List ℕ → ℕ → FrameAnswer
+gives counts bits = record { refusal = refusal.accepted; counts = counts; bits = bits }
+
+-- refused with a number: counts 0
+abbrev pub turnedBack : ℕ → FrameAnswer
+turnedBack k = record { refusal = k; counts = replicate 12 0; bits = 0 }
+
+-- a buffer of so many entries is one of the sheet's: 6 × C × 256
+abbrev pub fits : List ℕ → ℕ → Bool
+fits sheet n = eqb n (bufferLength (channels sheet))
+
+-- a test that must hold, else the call is turned back with the number
+abbrev pub must : Bool → ℕ → FrameAnswer → FrameAnswer
+must test number answer = cond test answer (turnedBack number)
+
+-- causes 1 and 2, which stand before all others
+abbrev pub sheetFirst : List ℕ → FrameAnswer → FrameAnswer
+sheetFirst sheet answer = must (eqb (checkOf sheet) refusal.accepted) (checkOf sheet) answer
+
+-- the bits fit an output of so many bytes, with the zero bits to the byte
+abbrev pub hasRoom : ℕ → List Bool → Bool
+hasRoom size bits = not (ltb size (bytesFor (length bits)))
+
+-- ---- the second entry: 1, 2, 10, 4, 5, 6; size is the output's length in bytes
+
+unfoldable pub writeAnswer : List ℕ → List ℕ → List ℕ → ℕ → FrameAnswer
+writeAnswer sheet exps codes size =
+    sheetFirst sheet (
+    must (fits sheet (length exps) && fits sheet (length codes)) refusal.wrongLength (
+    must (expsLegal sheet exps) refusal.badExponent (
+    must (codesLegal sheet exps codes) refusal.badCode (
+    must (hasRoom size (bodyBits sheet exps codes)) refusal.noRoom (
+    gives (countsOf sheet exps codes) (length (bodyBits sheet exps codes)))))))
+
+-- the output afterwards: the body where the call was accepted, as it was where it was refused
+unfoldable pub bodyLeft : FrameAnswer → List Bool → List ℕ → List ℕ
+bodyLeft a bits out = cond (eqb (a .refusal) refusal.accepted) (stored bits out) out
+
+-- ---- the reader: 1, 2, 10, then 7, 8, 9 as met
+
+-- the counts and the bits that a reading took, or its fault
+unfoldable pub readingOf : List Bool → Outcome Frame → FrameAnswer
+readingOf bits (ok frame rest) = gives (frame .exponentBits ++ frame .mantissaBits) (length bits - length rest)
+readingOf bits (fault number) = turnedBack number
+
+-- the lengths of the buffers for exponents, bap and codes
+abbrev pub readable : List ℕ → ℕ → ℕ → ℕ → Bool
+readable sheet exps bap codes = fits sheet exps && fits sheet bap && fits sheet codes
+
+unfoldable pub readAnswer : List ℕ → List Bool → ℕ → ℕ → ℕ → FrameAnswer
+readAnswer sheet bits exps bap codes =
+    sheetFirst sheet (
+    must (readable sheet exps bap codes) refusal.wrongLength (
+    readingOf bits (readFrame sheet bits)))
+
+-- one of the buffers of a reading: what was read, or all 0 after a fault
+unfoldable pub readInto : (Frame → List ℕ) → ℕ → Outcome Frame → List ℕ
+readInto part n (ok frame rest) = part frame
+readInto part n (fault number) = replicate n 0
+
+-- a buffer afterwards; `reached` says whether the reading was begun, that is, neither 1 nor 2 nor 10 was given
+unfoldable pub readLeft : Bool → (Frame → List ℕ) → Outcome Frame → List ℕ → List ℕ
+readLeft reached part outcome before = cond reached (readInto part (length before) outcome) before
+
+abbrev pub reached : List ℕ → ℕ → ℕ → ℕ → Bool
+reached sheet exps bap codes = eqb (checkOf sheet) refusal.accepted && readable sheet exps bap codes

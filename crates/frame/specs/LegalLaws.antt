@@ -1,0 +1,78 @@
+-- What the tests of a legal frame say: two lists that are alike, a channel's part of a block, each part and the codes of each block.
+use Prim.Native.Nat.{ℕ, zero, suc, _-_, _<_}
+use mathlib.Core.Path.{_≡_, refl, sym, ap₂}
+use mathlib.Core.Bool.{Bool, true, false, cond, true≢false}
+use mathlib.Core.List.{List, [], _∷_}
+use native.Mathlib.Omega.{arith}
+use lib.Dec.{eqb}
+use lib.ListN.{take}
+use borrow.Author.Tests.{eqb-true, eq-eqb}
+use Rattle.bits.specs.Parts.{piece}
+use Rattle.mantissas.specs.Stream.{Coded, coded}
+use Rattle.mantissas.specs.CodedLaws.{coded-true}
+use Rattle.shaping.specs.Shaped.{Shaped, shaped-yes}
+use Rattle.sheet.specs.Tests.{all-below}
+use Rattle.frame.specs.Layout.{channels, endAt, strategyAt, spanFor, rowOf, cleanRow}
+use Rattle.frame.specs.Body.{bapRow}
+use Rattle.frame.specs.Reader.{earlier}
+use Rattle.frame.specs.Legal.{alike, partLegal, rowLegal, expsLegal, codesLegal}
+
+-- ---- two lists that are alike
+
+alike-step : (t s : Bool) → cond t s false ≡ true → (t ≡ true) × (s ≡ true)
+alike-step true s e = (refl, e)
+alike-step false s e = absurd (true≢false (sym e))
+
+pub alike-same : (x y : List ℕ) → alike x y ≡ true → x ≡ y
+unfolding alike
+alike-same [] [] e = refl
+alike-same [] (y ∷ ys) e = absurd (true≢false (sym e))
+alike-same (x ∷ xs) [] e = absurd (true≢false (sym e))
+alike-same (x ∷ xs) (y ∷ ys) e =
+    let h = alike-step (eqb x y) (alike xs ys) e in
+    ap₂ (λ (a : ℕ) (l : List ℕ). a ∷ l) (eqb-true x y (h .0)) (alike-same xs ys (h .1))
+
+pub alike-itself : (x : List ℕ) → alike x x ≡ true
+unfolding alike
+alike-itself [] = refl
+alike-itself (x ∷ xs) = rw (eq-eqb x x refl) (alike-itself xs)
+
+-- ---- one channel's part of a block
+
+pub part-repeats : (strategy end : ℕ) (old part : List ℕ) → strategy ≡ 0 → partLegal strategy end old part ≡ true → take end old ≡ take end part
+unfolding partLegal
+part-repeats zero end old part z h = alike-same (take end old) (take end part) h
+part-repeats (suc s) end old part z h = absurd (omega arith)
+
+pub part-shaped : (strategy end : ℕ) (old part : List ℕ) → (strategy ≡ 0 → ⊥) → partLegal strategy end old part ≡ true
+    → Shaped (spanFor strategy - 1) (take end part)
+unfolding partLegal
+part-shaped zero end old part z h = absurd (z refl)
+part-shaped (suc s) end old part z h = shaped-yes (spanFor (suc s) - 1) (take end part) h
+
+-- ---- a legal frame
+
+-- the exponents of each block
+pub legal-row : (sheet exps : List ℕ) → expsLegal sheet exps ≡ true → (b : ℕ) → b < 6
+    → rowLegal sheet b (earlier sheet exps b) (rowOf sheet b exps) ≡ true
+unfolding expsLegal
+legal-row sheet exps legal b hb = all-below 6 (λ b. rowLegal sheet b (earlier sheet exps b) (rowOf sheet b exps)) legal b hb
+
+-- each part of a block
+pub part-of-row : (sheet : List ℕ) (b : ℕ) (old row : List ℕ) → rowLegal sheet b old row ≡ true → (c : ℕ) → c < channels sheet
+    → partLegal (strategyAt sheet b c) (endAt sheet c) (piece 256 c old) (piece 256 c row) ≡ true
+unfolding rowLegal
+part-of-row sheet b old row legal c hc =
+    all-below (channels sheet) (λ c. partLegal (strategyAt sheet b c) (endAt sheet c) (piece 256 c old) (piece 256 c row)) legal c hc
+
+-- each part of each block
+pub legal-part : (sheet exps : List ℕ) → expsLegal sheet exps ≡ true → (b c : ℕ) → b < 6 → c < channels sheet
+    → partLegal (strategyAt sheet b c) (endAt sheet c) (piece 256 c (earlier sheet exps b)) (piece 256 c (rowOf sheet b exps)) ≡ true
+legal-part sheet exps legal b c hb hc = part-of-row sheet b (earlier sheet exps b) (rowOf sheet b exps) (legal-row sheet exps legal b hb) c hc
+
+-- the codes of each block
+pub legal-codes : (sheet exps codes : List ℕ) → codesLegal sheet exps codes ≡ true → (b : ℕ) → b < 6
+    → Coded (bapRow sheet (rowOf sheet b exps)) (cleanRow sheet (rowOf sheet b codes))
+unfolding codesLegal
+legal-codes sheet exps codes legal b hb =
+    coded-true _ _ (all-below 6 (λ b. coded (bapRow sheet (rowOf sheet b exps)) (cleanRow sheet (rowOf sheet b codes))) legal b hb)

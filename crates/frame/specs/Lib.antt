@@ -1,0 +1,9 @@
+pub mod Layout
+pub mod Body
+pub mod Reader
+pub mod Legal
+pub mod Under
+pub mod Answers
+pub mod LayoutLaws
+pub mod LegalLaws
+pub mod Theorems

@@ -1,0 +1,73 @@
+-- How a body is read (document 01, "The frame body", faults 7 to 9 as met in bit order): the sets of a block, then, by the allocation
+-- that these exponents give, its mantissas. What is read has 0 from each end on.
+use Prim.Native.Nat.{ℕ, zero, suc, _-_, _*_}
+use mathlib.Core.Bool.{Bool}
+use mathlib.Core.List.{List, [], _∷_, _++_}
+use lib.ListN.{length, replicate}
+use Rattle.bits.specs.Parts.{joined, piece}
+use Rattle.bits.specs.Reading.{Outcome, ok, then, steps, gather}
+use Rattle.exponents.specs.Reading.{readExponents}
+use Rattle.mantissas.specs.Stream.{readStream}
+use Rattle.frame.specs.Layout.{channels, endAt, strategyAt, spanFor, rowOf, cleanRow}
+use Rattle.frame.specs.Body.{bapRow, exponentCounts, mantissaCounts}
+
+-- a channel's part of a block: a new set, or the earlier part again
+unfoldable pub readPart : ℕ → ℕ → List ℕ → List Bool → Outcome (List ℕ)
+readPart zero end old bits = ok old bits
+readPart (suc s) end old bits = then (readExponents end (spanFor (suc s)) bits) (λ exps rest. ok (exps ++ replicate (256 - end) 0) rest)
+
+-- the exponents of block b, after the row `old`
+unfoldable pub readSets : List ℕ → ℕ → List ℕ → List Bool → Outcome (List ℕ)
+readSets sheet b old bits = gather (λ c. readPart (strategyAt sheet b c) (endAt sheet c) (piece 256 c old)) (channels sheet) bits
+
+-- what the blocks so far gave; `row` has the exponents that hold now
+pub record Frame : Type 0 where
+  pub exps : List ℕ
+  pub bap : List ℕ
+  pub codes : List ℕ
+  pub row : List ℕ
+  pub exponentBits : List ℕ
+  pub mantissaBits : List ℕ
+
+-- one block more: its row of exponents, its bap, its codes, and how many bits each kind took
+unfoldable pub grown : Frame → List ℕ → List ℕ → List ℕ → ℕ → ℕ → Frame
+grown s row bap codes e m =
+    record {
+      exps = s .exps ++ row;
+      bap = s .bap ++ bap;
+      codes = s .codes ++ codes;
+      row = row;
+      exponentBits = s .exponentBits ++ (e ∷ []);
+      mantissaBits = s .mantissaBits ++ (m ∷ []);
+    }
+
+unfoldable pub readBlock : List ℕ → ℕ → Frame → List Bool → Outcome Frame
+readBlock sheet b s bits =
+    then (readSets sheet b (s .row) bits) (λ row r.
+    then (readStream (bapRow sheet row) r) (λ codes u.
+    ok (grown s row (bapRow sheet row) codes (length bits - length r) (length r - length u)) u))
+
+unfoldable pub nothing : List ℕ → Frame
+nothing sheet = record { exps = []; bap = []; codes = []; row = replicate (256 * channels sheet) 0; exponentBits = []; mantissaBits = [] }
+
+unfoldable pub readFrame : List ℕ → List Bool → Outcome Frame
+readFrame sheet bits = steps (readBlock sheet) 6 (nothing sheet) bits
+
+-- ---- what is read of a frame that was written
+
+-- the exponents that hold when block b begins
+unfoldable pub earlier : List ℕ → List ℕ → ℕ → List ℕ
+earlier sheet exps zero = replicate (256 * channels sheet) 0
+earlier sheet exps (suc b) = cleanRow sheet (rowOf sheet b exps)
+
+-- its first k blocks, 0 from each end on, with their allocation and counts
+unfoldable pub frameOf : List ℕ → List ℕ → List ℕ → ℕ → Frame
+frameOf sheet exps codes k =
+    record {
+      exps = joined k (λ b. cleanRow sheet (rowOf sheet b exps));
+      bap = joined k (λ b. bapRow sheet (rowOf sheet b exps));
+      codes = joined k (λ b. cleanRow sheet (rowOf sheet b codes));
+      row = earlier sheet exps k;
+      exponentBits = exponentCounts sheet exps k;
+      mantissaBits = mantissaCounts sheet exps codes k;
+    }

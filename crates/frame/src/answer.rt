@@ -1,0 +1,21 @@
+// The answer of the frame's calls.
+ghost use mathlib.Core.Path.{_≡_};
+ghost use Rattle.frame.specs.Answers.{turnedBack};
+
+// The refusal's number or 0; six exponent counts, then six mantissa counts; the bits of the body, as written or as read.
+pub struct FrameAnswer {
+    pub refusal: u32,
+    pub counts: [u32; 12],
+    pub bits: u32,
+}
+
+pub fn refused(number: u32) -> FrameAnswer
+    ensures { λ r. ⌜ r ≡ turnedBack number ⌝ }
+{
+    let counts = [0u32; 12];
+    FrameAnswer {
+        refusal: number,
+        counts: counts,
+        bits: 0,
+    }
+}

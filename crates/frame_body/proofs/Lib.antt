@@ -1,0 +1,5 @@
+pub mod Holding
+pub mod Counting
+pub mod Turns
+pub mod Sets
+pub mod Blocks

@@ -1,0 +1,122 @@
+-- After b blocks both of their counts are stored.
+use mathlib.Core.Path.{_≡_, refl, _∙_}
+use mathlib.Core.List.{[]}
+use Prim.Native.Nat.{_+_, _-_, _*_, _≤_, _<_}
+use lib.ListN.{length, take, drop}
+use Rattle.bits.specs.Parts.{tab}
+use Rattle.bits.specs.PartsLaws.{within, tab-start}
+use Rattle.frame.specs.Layout.{rowOf}
+use Rattle.frame.specs.Body.{setsBits, mantissaBits, exponentCounts, mantissaCounts, countsOf}
+use Rattle.frame_rows.specs.RowsLaws.{held-most}
+use Rattle.frame_body.proofs.Blocks.{part-asked, sets-counted, mantissas-counted}
+use Rattle.frame_body.proofs.Counting.{two-more, two-end}
+use native.Mathlib.Omega.{arith}
+use borrow.Author.Needs.{needs}
+use Rattle.frame_body.proofs.count.count_body.Statement.{statement}
+use Rattle.frame_body.proofs.count.count_body.Tie as tie
+
+abbrev Inv-loop : tie.InvT-loop
+Inv-loop sheet track strategies exps bap codes n counts₀ b₀ counts b =
+    (b ≤ 6) × (length counts ≡ 12)
+    × (take b counts ≡ tab b (λ j. length (setsBits sheet j (rowOf sheet j exps))))
+    × (take b (drop 6 counts) ≡ tab b (λ j. length (mantissaBits sheet (rowOf sheet j exps) (rowOf sheet j codes))))
+
+abbrev μ-loop : tie.MeasureT-loop
+μ-loop sheet track strategies exps bap codes n counts₀ b₀ counts b = 6 - b
+
+mul-n : tie.Need-mul-n Inv-loop μ-loop
+mul-n c = omega (arith, held-most (c .before .before .before .before .before .pre .0))
+
+loop-holds : tie.Need-loop-holds Inv-loop μ-loop
+loop-holds c = (omega arith, omega arith, tab-start _ [], tab-start _ [])
+
+mul-a : tie.Need-mul-a Inv-loop μ-loop
+mul-a c = omega (arith, held-most (c .before .before .before .before .before .before .before .pre .0), within (256 * c .before .before .before .before .before .before .before .args .track .channels) (c .before .loop .b) 6 (omega arith))
+
+add-e : tie.Need-add-e Inv-loop μ-loop
+add-e c = omega (arith, held-most (c .before .before .before .before .before .before .before .pre .0), within (256 * c .before .before .before .before .before .before .before .args .track .channels) (c .before .loop .b) 6 (omega arith))
+
+count-sets-requires : tie.Need-count-sets-requires Inv-loop μ-loop
+count-sets-requires c κs = (c .before .before .before .before .before .before .before .pre .0, c .loop-test .taken)
+
+mul-counts : tie.Need-mul-counts Inv-loop μ-loop
+mul-counts c = search needs
+
+array-write-counts : tie.Need-array-write-counts Inv-loop μ-loop
+array-write-counts c = search needs
+
+sub-count-mantissas : tie.Need-sub-count-mantissas Inv-loop μ-loop
+sub-count-mantissas c = search needs
+
+part-count-mantissas-start : tie.Need-part-count-mantissas-start Inv-loop μ-loop
+part-count-mantissas-start c = search needs
+
+part-count-mantissas-end : tie.Need-part-count-mantissas-end Inv-loop μ-loop
+part-count-mantissas-end c = omega (arith, within (256 * c .before .before .before .before .before .before .before .before .args .track .channels) (c .before .before .loop .b) 6 (omega arith))
+
+count-mantissas-requires : tie.Need-count-mantissas-requires Inv-loop μ-loop
+count-mantissas-requires c κs =
+    let g = c .before .before .before .before .before .before .before .before .before .args in
+    let p = c .before .before .before .before .before .before .before .before .before .pre in
+    let i = c .before .before .before .loop .b in
+    let z = 256 * g .track .channels in
+    part-asked (p .0) (g .exps .now) (g .bap .now) (g .codes .now) (p .1 .1 .0) (p .1 .1 .1) i (omega arith) (z * i) (z * i + z - z * i) refl (omega arith) (p .1 .0 .1)
+
+add-counts : tie.Need-add-counts Inv-loop μ-loop
+add-counts c = search needs
+
+mul-counts-2 : tie.Need-mul-counts-2 Inv-loop μ-loop
+mul-counts-2 c = search needs
+
+array-write-counts-2 : tie.Need-array-write-counts-2 Inv-loop μ-loop
+array-write-counts-2 c = search needs
+
+add-b : tie.Need-add-b Inv-loop μ-loop
+add-b c = search needs
+
+loop-less : tie.Need-loop-less Inv-loop μ-loop
+loop-less c = search needs
+
+loop-again : tie.Need-loop-again Inv-loop μ-loop
+loop-again c =
+    let g = c .before .before .before .before .before .before .before .before .before .before .args in
+    let p = c .before .before .before .before .before .before .before .before .before .before .pre in
+    let i = c .before .before .before .before .loop .b in
+    let inside : i < 6 = omega arith in
+    let z = 256 * g .track .channels in
+    let exps = g .exps .now in
+    let bap = g .bap .now in
+    let codes = g .codes .now in
+    let sets = c .before .before .count-sets .ensures ∙ sets-counted (p .0) exps bap codes (p .1 .1 .0) (p .1 .1 .1) i inside (p .1 .0 .0) in
+    let mantissas = c .count-mantissas .ensures .0 ∙ mantissas-counted (p .0) exps bap codes (p .1 .1 .0) (p .1 .1 .1) i inside (z * i) (z * i + z - z * i) refl (omega arith) in
+    let more = two-more _ _ (c .before .before .before .before .loop .counts) i (c .before .before .before .before .loop .inv .1) (c .before .before .before .before .loop .inv .2) (c .before .before .before .before .loop .inv .3) _ _ inside sets mantissas in
+    (omega arith, more .0, more .1, more .2)
+
+returns : tie.Need-returns Inv-loop μ-loop
+unfolding countsOf exponentCounts mantissaCounts
+returns c = two-end _ _ (c .before .loop .counts) (c .before .loop .b) (c .before .loop .inv .1) (c .before .loop .inv .2) (c .before .loop .inv .3) (omega arith)
+
+pub count-body-spec : {M : Type 1} → statement M
+count-body-spec =
+    tie.close
+    (tie.spec
+    Inv-loop
+    μ-loop
+    mul-n
+    loop-holds
+    mul-a
+    add-e
+    count-sets-requires
+    mul-counts
+    array-write-counts
+    sub-count-mantissas
+    part-count-mantissas-start
+    part-count-mantissas-end
+    count-mantissas-requires
+    add-counts
+    mul-counts-2
+    array-write-counts-2
+    add-b
+    loop-less
+    loop-again
+    returns)

@@ -1,0 +1,3 @@
+pub mod Formula
+pub mod Size
+pub mod Writing

@@ -1,0 +1,149 @@
+// The bits of a body, block by block: the new exponent sets by channel number, then all mantissas.
+use bits::Writer;
+use frame::Track;
+ghost use mathlib.Core.Path.{_≡_};
+ghost use mathlib.Core.Bool.{true};
+ghost use Prim.Native.Nat.{_*_, _≤_, _<_};
+ghost use lib.ListN.{length};
+ghost use Rattle.bits.specs.Answer.{stored};
+ghost use Rattle.bits.specs.Bytes.{bytesFor};
+ghost use Rattle.bits.specs.Write.{Ready, Put};
+ghost use Rattle.mantissas.specs.Stream.{Coded};
+ghost use Rattle.sheet.specs.Ranges.{legalEnd};
+ghost use Rattle.frame.specs.Layout.{cleanRow};
+ghost use Rattle.frame.specs.Body.{setBits, setsBits, bapRow, blockBits, bodyBits};
+ghost use Rattle.frame.specs.Legal.{LegalFrame};
+ghost use Rattle.frame.specs.Under.{Under};
+ghost use Rattle.frame_rows.specs.Rows.{bapsOf, cleaned};
+ghost use Rattle.frame_body.specs.Writing.{NewSet, NewSets};
+
+// A channel's exponents in a block: none where the block reuses the earlier ones.
+fn put_part(out: &mut [u8], w: Writer, part: &[u8], strategy: u8, end: usize) -> Writer
+    requires { ⌜ (legalEnd end ≡ true) × (end ≤ length (now part)) ⌝ }
+    requires { ⌜ NewSet strategy end (now part) ⌝ }
+    requires { ⌜ Ready w (length (now out)) (length (setBits strategy end (now part))) ⌝ }
+    ensures { λ r. ⌜ Put (now (out .entry)) w (setBits strategy end (now (part .entry))) (now (out .exit)) r ⌝ }
+{
+    if strategy == 0 {
+        return w;
+    }
+    exponents::put_exponents(out, w, part, end, frame::span_for(strategy))
+}
+
+// The new exponent sets of a block, by channel number.
+fn put_sets(
+    out: &mut [u8],
+    w: Writer,
+    sheet: &[u8],
+    track: Track,
+    strategies: [[u8; 6]; 6],
+    b: usize,
+    row: &[u8],
+) -> Writer
+    requires { ⌜ Under (now sheet) track strategies ⌝ }
+    requires { ⌜ (b < 6) × (length (now row) ≡ 256 * track .channels) ⌝ }
+    requires { ⌜ NewSets (now sheet) b (now row) ⌝ }
+    requires { ⌜ Ready w (length (now out)) (length (setsBits (now sheet) b (now row))) ⌝ }
+    ensures { λ r. ⌜ Put (now (out .entry)) w (setsBits (now (sheet .entry)) b (now (row .entry))) (now (out .exit)) r ⌝ }
+{
+    let mut w = w;
+    for c in 0..track.channels {
+        let strategy = frame::strategy_at(strategies, b, c);
+        let end = track.ends[c];
+        let a = 256 * c;
+        let e = a + 256;
+        w = put_part(out, w, &row[a..e], strategy, end);
+    }
+    w
+}
+
+// A block: its sets, then its mantissas as one stream over all channels.
+fn put_block(
+    out: &mut [u8],
+    w: Writer,
+    sheet: &[u8],
+    track: Track,
+    strategies: [[u8; 6]; 6],
+    b: usize,
+    row: &[u8],
+    bap: &[u8],
+    codes: &[u16],
+) -> Writer
+    requires { ⌜ Under (now sheet) track strategies ⌝ }
+    requires { ⌜ (b < 6) × (length (now row) ≡ 256 * track .channels) ⌝ }
+    requires { ⌜ NewSets (now sheet) b (now row) ⌝ }
+    requires { ⌜ (now bap ≡ bapRow (now sheet) (now row)) × (cleanRow (now sheet) (now codes) ≡ now codes) × Coded (now bap) (now codes) ⌝ }
+    requires { ⌜ Ready w (length (now out)) (length (blockBits (now sheet) b (now row) (now codes))) ⌝ }
+    ensures { λ r. ⌜ Put (now (out .entry)) w (blockBits (now (sheet .entry)) b (now (row .entry)) (now (codes .entry))) (now (out .exit)) r ⌝ }
+{
+    let sets = put_sets(out, w, sheet, track, strategies, b, row);
+    mantissas::put_mantissas(out, sets, bap, codes)
+}
+
+// The six blocks.
+fn put_body(
+    out: &mut [u8],
+    w: Writer,
+    sheet: &[u8],
+    track: Track,
+    strategies: [[u8; 6]; 6],
+    exps: &[u8],
+    bap: &[u8],
+    codes: &[u16],
+) -> Writer
+    requires { ⌜ Under (now sheet) track strategies ⌝ }
+    requires { ⌜ (length (now exps) ≡ 256 * track .channels * 6) × (length (now bap) ≡ 256 * track .channels * 6) × (length (now codes) ≡ 256 * track .channels * 6) ⌝ }
+    requires { ⌜ LegalFrame (now sheet) (now exps) (now codes) ⌝ }
+    requires { ⌜ (now bap ≡ bapsOf (now sheet) (now exps)) × (cleaned (now sheet) (now codes) ≡ now codes) ⌝ }
+    requires { ⌜ Ready w (length (now out)) (length (bodyBits (now sheet) (now exps) (now codes))) ⌝ }
+    ensures { λ r. ⌜ Put (now (out .entry)) w (bodyBits (now (sheet .entry)) (now (exps .entry)) (now (codes .entry))) (now (out .exit)) r ⌝ }
+{
+    let n = 256 * track.channels;
+    let mut w = w;
+    for b in 0..6 {
+        let a = n * b;
+        let e = a + n;
+        w = put_block(
+            out,
+            w,
+            sheet,
+            track,
+            strategies,
+            b,
+            &exps[a..e],
+            &bap[a..e],
+            &codes[a..e],
+        );
+    }
+    w
+}
+
+// The body from the first bit of the output on, closed with zero bits to the byte; the bytes after it stay.
+pub fn store_body(
+    out: &mut [u8],
+    sheet: &[u8],
+    track: Track,
+    strategies: [[u8; 6]; 6],
+    exps: &[u8],
+    bap: &[u8],
+    codes: &[u16],
+)
+    requires { ⌜ Under (now sheet) track strategies ⌝ }
+    requires { ⌜ (length (now exps) ≡ 256 * track .channels * 6) × (length (now bap) ≡ 256 * track .channels * 6) × (length (now codes) ≡ 256 * track .channels * 6) ⌝ }
+    requires { ⌜ LegalFrame (now sheet) (now exps) (now codes) ⌝ }
+    requires { ⌜ (now bap ≡ bapsOf (now sheet) (now exps)) × (cleaned (now sheet) (now codes) ≡ now codes) ⌝ }
+    requires { ⌜ bytesFor (length (bodyBits (now sheet) (now exps) (now codes))) ≤ length (now out) ⌝ }
+    ensures { λ _. ⌜ now (out .exit) ≡ stored (bodyBits (now (sheet .entry)) (now (exps .entry)) (now (codes .entry))) (now (out .entry)) ⌝ }
+{
+    let w = put_body(
+        out,
+        bits::start(),
+        sheet,
+        track,
+        strategies,
+        exps,
+        bap,
+        codes,
+    );
+    bits::finish(out, w);
+}

@@ -1,0 +1,10 @@
+-- Each of the four lengths is compared with the one of the sheet.
+use borrow.Author.Needs.{needs}
+use Rattle.frame_encoder.proofs.encode.all_fit.Statement.{statement}
+use Rattle.frame_encoder.proofs.encode.all_fit.Tie as tie
+
+returns : tie.Need-returns
+returns c = rw (c .buffer-length .ensures, c .before .before .pre .0)
+
+pub all-fit-spec : {M : Type 1} → statement M
+all-fit-spec = tie.close (tie.spec (λ c κs. search needs) returns)

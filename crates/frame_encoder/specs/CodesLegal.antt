@@ -1,0 +1,154 @@
+-- The codes of a frame are legal: as many as there are bins, each in range for its bap, none from end on.
+use Prim.Native.Nat.{ℕ, zero, suc, _+_, _-_, _*_, _≤_, _<_}
+use mathlib.Core.Bool.{true}
+use mathlib.Core.List.{List, [], _∷_, _++_}
+use mathlib.Core.Path.{_≡_, refl, ap, subst, _∙_}
+use native.Mathlib.Omega.{arith}
+use lib.Ieee.{Float}
+use lib.ListN.{length, take, drop, getD, replicate, length-append, length-drop, length-replicate, take-append-drop}
+use lib.Seq.{take-at, getD-drop}
+use Rattle.bits.specs.Parts.{joined, piece}
+use Rattle.bits.specs.Refusal as refusal
+use Rattle.frame.specs.Body.{bapPart, bapRow}
+use Rattle.frame.specs.Layout.{channels, endAt, rowOf, clean, cleanRow}
+use Rattle.frame.specs.LayoutLaws.{length-bapPart}
+use Rattle.frame.specs.Legal.{codesLegal, LegalFrame}
+use Rattle.frame_rows.specs.Rows.{bapsOf, cleaned}
+use Rattle.frame_rows.specs.RowsLaws.{length-baps}
+use Rattle.frame_runs.specs.Finite.{Encodable}
+use Rattle.frame_runs.specs.FramedLaws.{length-framed, row-framed-clean, framed-clean}
+use Rattle.frame_runs.specs.Runs.{belowEnd, expsOf}
+use Rattle.frame_runs.specs.RunsLaws.{whole-below}
+use Rattle.frame_runs.specs.RunsLegal.{length-expsOf, expsOf-legal, all-hold}
+use Rattle.mantissas.specs.CodedLaws.{coded-is}
+use Rattle.mantissas.specs.Ranges.{row}
+use Rattle.mantissas.specs.Stream.{Coded, empty, bin, coded}
+use Rattle.quantiser.specs.CodeLaws.{code-in-range}
+use Rattle.sheet.specs.Sheet.{checkOf}
+use Rattle.frame_encoder.specs.Codes.{codesFor, codePart, codesAt, codesOf}
+use Rattle.frame_encoder.specs.CodesLaws.{Codable, Allocated, bap-most, end-held, bap-below, codable-part}
+use Rattle.frame_encoder.specs.Made.{Made}
+
+-- ---- codes in range, put together
+
+coded-append : {bs cs ds es : List ℕ} → Coded bs cs → Coded ds es → Coded (bs ++ ds) (cs ++ es)
+coded-append empty k = k
+coded-append (bin hb hc h) k = bin hb hc (coded-append h k)
+
+coded-joined : (f g : ℕ → List ℕ) (n : ℕ) → ((i : ℕ) → i < n → Coded (f i) (g i)) → Coded (joined n f) (joined n g)
+unfolding joined
+coded-joined f g zero h = empty
+coded-joined f g (suc n) h = coded-append (coded-joined f g n (λ i l. h i (omega arith))) (h n (omega arith))
+
+-- the code of a coefficient is in range for its bap
+coded-for : (xs : List Float) (exps bap : List ℕ) → length exps ≡ length xs → length bap ≡ length xs → ((i : ℕ) → getD bap i 0 ≤ 15) → Coded bap (codesFor xs exps bap)
+unfolding codesFor
+coded-for [] exps [] e f h = empty
+coded-for [] exps (b ∷ bap) e f h = absurd (omega arith)
+coded-for (x ∷ xs) [] bap e f h = absurd (omega arith)
+coded-for (x ∷ xs) (k ∷ exps) [] e f h = absurd (omega arith)
+coded-for (x ∷ xs) (k ∷ exps) (b ∷ bap) e f h =
+    let l : b < 16 = (let m : b ≤ 15 = h 0 in omega arith) in
+    bin l (code-in-range x k b (h 0)) (coded-for xs exps bap (omega arith) (omega arith) (λ i. h (suc i)))
+
+-- the code 0 is in range for every bap
+coded-zeros : (bap : List ℕ) (n : ℕ) → length bap ≡ n → ((i : ℕ) → getD bap i 0 ≤ 15) → Coded bap (replicate n 0)
+coded-zeros [] zero e h = empty
+coded-zeros [] (suc n) e h = absurd (omega arith)
+coded-zeros (b ∷ bap) zero e h = absurd (omega arith)
+coded-zeros (b ∷ bap) (suc n) e h =
+    let l : b < 16 = (let m : b ≤ 15 = h 0 in omega arith) in
+    bin l (row b l .levels-least) (coded-zeros bap n (omega arith) (λ i. h (suc i)))
+
+length-codesFor : (xs : List Float) (exps bap : List ℕ) → length exps ≡ length xs → length bap ≡ length xs → length (codesFor xs exps bap) ≡ length xs
+unfolding codesFor
+length-codesFor [] exps bap e f = refl
+length-codesFor (x ∷ xs) [] bap e f = absurd (omega arith)
+length-codesFor (x ∷ xs) (k ∷ exps) [] e f = absurd (omega arith)
+length-codesFor (x ∷ xs) (k ∷ exps) (b ∷ bap) e f = ap suc (length-codesFor xs exps bap (omega arith) (omega arith))
+
+-- ---- a frame's codes
+
+module _ (sheet : List ℕ) (coeffs : List Float) (exps bap : List ℕ) (accepted : checkOf sheet ≡ refusal.accepted) (e : Encodable sheet coeffs) (a : Allocated sheet exps bap) where
+  module _ (b c : ℕ) (hb : b < 6) (hc : c < channels sheet) where
+    codable : Codable (belowEnd sheet b c coeffs) (belowEnd sheet b c exps) (belowEnd sheet b c bap)
+    codable = codable-part sheet accepted b c hb hc coeffs exps bap e a
+
+    length-below-end : length (codesFor (belowEnd sheet b c coeffs) (belowEnd sheet b c exps) (belowEnd sheet b c bap)) ≡ endAt sheet c
+    length-below-end = length-codesFor _ _ _ (codable .exps-long) (codable .bap-long) ∙ whole-below sheet b c coeffs accepted hb hc (e .whole)
+
+    length-codePart : length (codePart sheet coeffs exps bap b c) ≡ 256
+    unfolding codePart
+    length-codePart =
+        rw (length-append, length-below-end, length-replicate {A = ℕ} (256 - endAt sheet c) 0) (omega (arith, end-held sheet accepted b c hb hc))
+
+    codePart-clean : clean (endAt sheet c) (codePart sheet coeffs exps bap b c) ≡ codePart sheet coeffs exps bap b c
+    unfolding clean codePart
+    codePart-clean =
+        let zeros = replicate {A = ℕ} (256 - endAt sheet c) 0 in
+        let front = codesFor (belowEnd sheet b c coeffs) (belowEnd sheet b c exps) (belowEnd sheet b c bap) in
+        ap (λ (l : List ℕ). l ++ zeros) (take-at front zeros (endAt sheet c) length-below-end)
+
+    codePart-coded : Coded (bapPart sheet c (piece 256 c (rowOf sheet b exps))) (codePart sheet coeffs exps bap b c)
+    unfolding codePart
+    codePart-coded =
+        let n = endAt sheet c in
+        let baps = bapPart sheet c (piece 256 c (rowOf sheet b exps)) in
+        let most = bap-most sheet c (piece 256 c (rowOf sheet b exps)) in
+        let below : belowEnd sheet b c bap ≡ take n baps = ap (belowEnd sheet b c) (a .is) ∙ bap-below sheet accepted b c hb hc exps in
+        let rest : length (drop n baps) ≡ 256 - n = length-drop n baps ∙ ap (λ (k : ℕ). k - n) (length-bapPart sheet c _) in
+        let past : (i : ℕ) → getD (drop n baps) i 0 ≤ 15 = λ i. rw (getD-drop n baps i 0) (most (n + i)) in
+        let codes = codesFor (belowEnd sheet b c coeffs) (belowEnd sheet b c exps) (belowEnd sheet b c bap) in
+        let front : Coded (take n baps) codes =
+        subst (λ (bs : List ℕ). Coded bs codes) below (coded-for _ _ _ (codable .exps-long) (codable .bap-long) (codable .fit)) in
+        rw (← take-append-drop n baps) (coded-append front (coded-zeros (drop n baps) (256 - n) rest past))
+
+  pub length-codesAt : length (codesAt sheet coeffs exps bap) ≡ 256 * channels sheet * 6
+  unfolding codesAt
+  length-codesAt = length-framed sheet (codePart sheet coeffs exps bap) length-codePart
+
+  -- nothing stands from an end on
+  pub codesAt-clean : cleaned sheet (codesAt sheet coeffs exps bap) ≡ codesAt sheet coeffs exps bap
+  unfolding codesAt
+  codesAt-clean = framed-clean sheet (codePart sheet coeffs exps bap) length-codePart codePart-clean
+
+  row-coded : (b : ℕ) → b < 6 → coded (bapRow sheet (rowOf sheet b exps)) (cleanRow sheet (rowOf sheet b (codesAt sheet coeffs exps bap))) ≡ true
+  unfolding bapRow codesAt
+  row-coded b hb =
+      rw (row-framed-clean sheet (codePart sheet coeffs exps bap) length-codePart codePart-clean b hb)
+      (coded-is (coded-joined _ (codePart sheet coeffs exps bap b) (channels sheet) (λ c hc. codePart-coded b c hb hc)))
+
+  -- cause 5 is never met
+  pub codesAt-legal : codesLegal sheet exps (codesAt sheet coeffs exps bap) ≡ true
+  unfolding codesLegal
+  codesAt-legal = all-hold 6 (λ b. coded (bapRow sheet (rowOf sheet b exps)) (cleanRow sheet (rowOf sheet b (codesAt sheet coeffs exps bap)))) row-coded
+
+-- ---- the frame of the coefficients
+
+module _ (sheet : List ℕ) (coeffs : List Float) (accepted : checkOf sheet ≡ refusal.accepted) (e : Encodable sheet coeffs) where
+  pub runs-allocated : Allocated sheet (expsOf sheet coeffs) (bapsOf sheet (expsOf sheet coeffs))
+  runs-allocated = record { whole = length-expsOf sheet coeffs accepted (e .whole); legal = expsOf-legal sheet coeffs accepted (e .whole); is = refl }
+
+  pub length-codesOf : length (codesOf sheet coeffs) ≡ 256 * channels sheet * 6
+  unfolding codesOf
+  length-codesOf = length-codesAt sheet coeffs _ _ accepted e runs-allocated
+
+  pub codesOf-clean : cleaned sheet (codesOf sheet coeffs) ≡ codesOf sheet coeffs
+  unfolding codesOf
+  codesOf-clean = codesAt-clean sheet coeffs _ _ accepted e runs-allocated
+
+  -- the exponents and codes of the coefficients are a legal frame
+  pub encoded-legal : LegalFrame sheet (expsOf sheet coeffs) (codesOf sheet coeffs)
+  unfolding codesOf
+  encoded-legal = record { shaped = runs-allocated .legal; coded = codesAt-legal sheet coeffs _ _ accepted e runs-allocated }
+
+  pub encoded-made : Made sheet (expsOf sheet coeffs) (bapsOf sheet (expsOf sheet coeffs)) (codesOf sheet coeffs)
+  encoded-made =
+      record {
+        exps-long = runs-allocated .whole;
+        bap-long = length-baps sheet (expsOf sheet coeffs);
+        codes-long = length-codesOf;
+        legal = encoded-legal;
+        clean = codesOf-clean;
+        is = refl;
+      }

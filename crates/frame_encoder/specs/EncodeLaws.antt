@@ -1,0 +1,98 @@
+-- The answer of `encode_body` by what was found, in the table's order.
+use Prim.Native.Nat.{ℕ, _*_, _≤_, _<_}
+use mathlib.Core.Bool.{Bool, true, false, _&&_}
+use mathlib.Core.List.{List}
+use mathlib.Core.Path.{_≡_}
+use native.Mathlib.Omega.{arith}
+use lib.Ieee.{Float}
+use lib.ListN.{length}
+use borrow.Author.Tests.{eqb-true, eq-eqb, ne-eqb, lt-ltb, le-ltb}
+use Rattle.bits.specs.Answer.{stored}
+use Rattle.bits.specs.Bytes.{bytesFor}
+use Rattle.bits.specs.Refusal as refusal
+use Rattle.frame.specs.Answers.{gives, turnedBack, fits, bodyLeft}
+use Rattle.frame.specs.Body.{bodyBits, countsOf}
+use Rattle.frame.specs.Layout.{channels}
+use Rattle.frame.specs.declared.answer.FrameAnswer.{FrameAnswer}
+use Rattle.frame_runs.specs.Finite.{allFinite}
+use Rattle.frame_runs.specs.Runs.{expsOf}
+use Rattle.sheet.specs.Layout.{bufferLength}
+use Rattle.sheet.specs.Sheet.{checkOf}
+use Rattle.sheet.specs.Tests.{both}
+use Rattle.frame_encoder.specs.Codes.{codesOf}
+use Rattle.frame_encoder.specs.Encode.{roomAnswer, allFit, encodeAnswer, left}
+
+-- ---- what is left
+
+pub left-refused : (a : FrameAnswer) (k : ℕ) (new before : List ℕ) → a ≡ turnedBack k → (k ≡ refusal.accepted → ⊥) → before ≡ left a new before
+unfolding left
+left-refused a k new before e h = rw (e, ne-eqb k refusal.accepted h)
+
+pub body-refused : (a : FrameAnswer) (k : ℕ) (bits : List Bool) (before : List ℕ) → a ≡ turnedBack k → (k ≡ refusal.accepted → ⊥) → before ≡ bodyLeft a bits before
+unfolding bodyLeft
+body-refused a k bits before e h = rw (e, ne-eqb k refusal.accepted h)
+
+pub left-accepted : (a : FrameAnswer) (counts : List ℕ) (n : ℕ) (new before : List ℕ) → a ≡ gives counts n → new ≡ left a new before
+unfolding left
+left-accepted a counts n new before e = rw e
+
+pub body-accepted : (a : FrameAnswer) (counts : List ℕ) (n : ℕ) (bits : List Bool) (before : List ℕ) → a ≡ gives counts n → stored bits before ≡ bodyLeft a bits before
+unfolding bodyLeft
+body-accepted a counts n bits before e = rw e
+
+-- ---- room
+
+module _ (sheet exps codes : List ℕ) (size : ℕ) where
+  pub room-short : size < bytesFor (length (bodyBits sheet exps codes)) → roomAnswer sheet exps codes size ≡ turnedBack refusal.noRoom
+  unfolding roomAnswer
+  room-short h = rw (lt-ltb size (bytesFor (length (bodyBits sheet exps codes))) h)
+
+  pub room-there : bytesFor (length (bodyBits sheet exps codes)) ≤ size
+      → roomAnswer sheet exps codes size ≡ gives (countsOf sheet exps codes) (length (bodyBits sheet exps codes))
+  unfolding roomAnswer
+  room-there h = rw (le-ltb size (bytesFor (length (bodyBits sheet exps codes))) h)
+
+-- ---- lengths
+
+-- what the test of the four lengths says
+pub record Whole (sheet : List ℕ) (coeffs exps bap codes : ℕ) : Type 0 where
+  pub coeffs-long : coeffs ≡ 256 * channels sheet * 6
+  pub exps-long : exps ≡ 256 * channels sheet * 6
+  pub bap-long : bap ≡ 256 * channels sheet * 6
+  pub codes-long : codes ≡ 256 * channels sheet * 6
+
+fit-long : (sheet : List ℕ) (n : ℕ) → fits sheet n ≡ true → n ≡ 256 * channels sheet * 6
+fit-long sheet n h = omega (arith, eqb-true n (bufferLength (channels sheet)) h)
+
+pub fit-whole : (sheet : List ℕ) (coeffs exps bap codes : ℕ) → allFit sheet coeffs exps bap codes ≡ true → Whole sheet coeffs exps bap codes
+fit-whole sheet coeffs exps bap codes h =
+    let three = both (fits sheet coeffs && fits sheet exps && fits sheet bap) (fits sheet codes) h in
+    let two = both (fits sheet coeffs && fits sheet exps) (fits sheet bap) (three .0) in
+    let one = both (fits sheet coeffs) (fits sheet exps) (two .0) in
+    record {
+      coeffs-long = fit-long sheet coeffs (one .0);
+      exps-long = fit-long sheet exps (one .1);
+      bap-long = fit-long sheet bap (two .1);
+      codes-long = fit-long sheet codes (three .1);
+    }
+
+-- ---- the answer
+
+module _ (sheet : List ℕ) (coeffs : List Float) (exps bap codes size : ℕ) where
+  pub answer-sheet : (checkOf sheet ≡ refusal.accepted → ⊥) → encodeAnswer sheet coeffs exps bap codes size ≡ turnedBack (checkOf sheet)
+  unfolding encodeAnswer
+  answer-sheet h = rw (ne-eqb (checkOf sheet) refusal.accepted h)
+
+  module _ (accepted : checkOf sheet ≡ refusal.accepted) where
+    pub answer-length : allFit sheet (length coeffs) exps bap codes ≡ false → encodeAnswer sheet coeffs exps bap codes size ≡ turnedBack refusal.wrongLength
+    unfolding encodeAnswer
+    answer-length h = rw (eq-eqb (checkOf sheet) refusal.accepted accepted, h)
+
+    module _ (fit : allFit sheet (length coeffs) exps bap codes ≡ true) where
+      pub answer-not-finite : allFinite sheet coeffs ≡ false → encodeAnswer sheet coeffs exps bap codes size ≡ turnedBack refusal.notFinite
+      unfolding encodeAnswer
+      answer-not-finite h = rw (eq-eqb (checkOf sheet) refusal.accepted accepted, fit, h)
+
+      pub answer-room : allFinite sheet coeffs ≡ true → encodeAnswer sheet coeffs exps bap codes size ≡ roomAnswer sheet (expsOf sheet coeffs) (codesOf sheet coeffs) size
+      unfolding encodeAnswer
+      answer-room h = rw (eq-eqb (checkOf sheet) refusal.accepted accepted, fit, h)

@@ -1,0 +1,7 @@
+pub mod Clearing
+pub mod Parts
+pub mod OnePart
+pub mod SetsTurns
+pub mod OneBlock
+pub mod SixBlocks
+pub mod Answers

@@ -1,0 +1,81 @@
+-- The channels of a block as the code reads their sets: what the row holds after c channels, and what one channel more makes of it.
+use Prim.Native.Nat.{ℕ, _+_, _*_, _≤_, _<_}
+use mathlib.Core.Path.{_≡_, refl, sym, _∙_}
+use mathlib.Core.Bool.{Bool}
+use mathlib.Core.List.{List}
+use native.Mathlib.Omega.{arith}
+use lib.ListN.{length, take, drop}
+use lib.Seq.{take-all}
+use Rattle.bits.specs.Parts.{piece, placed}
+use Rattle.bits.specs.PartsLaws.{within, part-long, placed-length}
+use Rattle.bits.specs.Read.{from}
+use Rattle.bits.specs.Reading.{ok, fault, gather, Came}
+use Rattle.bits.specs.ReadingLaws.{gather-start, gather-again, gather-fault}
+use Rattle.bits.specs.Refusal as refusal
+use Rattle.bits.specs.declared.read.ReadEnd.{ReadEnd}
+use Rattle.frame.specs.Layout.{channels, endAt, strategyAt}
+use Rattle.frame.specs.Reader.{readPart, readSets}
+use Rattle.frame_rows.specs.RowsLaws.{part-old, place-rest}
+use Rattle.frame_reader.specs.Reading.{mostSet}
+use Rattle.frame_reader.proofs.Parts.{place-front}
+
+-- c channels were read, up to the position `at`; the parts behind them are still as they were
+pub record SetsRead (sheet : List ℕ) (b : ℕ) (old : List ℕ) (bits : List Bool) (pos c : ℕ) (row : List ℕ) (at : ℕ) : Type 0 where
+  pub few : c ≤ channels sheet
+  pub long : length row ≡ 256 * channels sheet
+  pub inside : at ≤ length bits
+  pub later : pos ≤ at
+  pub near : at ≤ pos + mostSet * c
+  pub read : gather (λ j. readPart (strategyAt sheet b j) (endAt sheet j) (piece 256 j old)) c (from pos bits) ≡ ok (take (256 * c) row) (from at bits)
+  pub rest : drop (256 * c) row ≡ drop (256 * c) old
+
+pub sets-start : (sheet : List ℕ) (b : ℕ) (old : List ℕ) (bits : List Bool) (pos : ℕ) → length old ≡ 256 * channels sheet → pos ≤ length bits
+    → SetsRead sheet b old bits pos 0 old pos
+sets-start sheet b old bits pos long inside =
+    record { few = omega arith; long = long; inside = inside; later = omega arith; near = omega arith; read = gather-start _ (from pos bits); rest = refl }
+
+-- what the code holds by value of channel c, and where its part stands: k entries from a on
+pub record Turn (sheet : List ℕ) (b c strategy end a k : ℕ) : Type 0 where
+  pub there : c < channels sheet
+  pub strategy-is : strategy ≡ strategyAt sheet b c
+  pub end-is : end ≡ endAt sheet c
+  pub start : a ≡ 256 * c
+  pub wide : k ≡ 256
+
+module _ {sheet : List ℕ} {b : ℕ} {old : List ℕ} {bits : List Bool} {pos c : ℕ} {row : List ℕ} {at : ℕ} (t : SetsRead sheet b old bits pos c row at)
+    {strategy end a k : ℕ} (u : Turn sheet b c strategy end a k) where
+  fits : 256 * c + 256 ≤ length row
+  fits = omega (arith, within 256 c (channels sheet) (u .there), t .long)
+
+  -- the part that is lent
+  pub part-size : length (take k (drop a row)) ≡ 256
+  part-size = part-long 256 c a k row (u .start) (u .wide) fits
+
+  -- the row with the part in its place
+  pub row-size : (part : List ℕ) → length part ≡ 256 → length (placed a k row part) ≡ 256 * channels sheet
+  row-size part n = placed-length row part a k (omega (arith, fits, u .start, u .wide)) (n ∙ sym (u .wide)) ∙ t .long
+
+  module _ {part : List ℕ} {r : ReadEnd} (came : Came (readPart strategy end (take k (drop a row)) (from at bits)) part bits at r) where
+    here : Came (readPart (strategyAt sheet b c) (endAt sheet c) (piece 256 c old) (from at bits)) part bits at r
+    here = rw (u .strategy-is, u .end-is, part-old 256 c a k row old (u .start) (u .wide) (t .rest)) at came
+
+    pub sets-fault : (r .fault ≡ refusal.accepted → ⊥) → readSets sheet b old (from pos bits) ≡ fault (r .fault)
+    unfolding readSets
+    sets-fault bad = gather-fault _ c (r .fault) (take (256 * c) row) (from pos bits) (from at bits) (channels sheet) (u .there) (t .read) (here .bad bad)
+
+    pub sets-more : r .fault ≡ refusal.accepted → r .pos ≤ at + mostSet → length part ≡ 256 → SetsRead sheet b old bits pos (c + 1) (placed a k row part) (r .pos)
+    sets-more good step n =
+        record {
+          few = omega (arith, u .there);
+          long = row-size part n;
+          inside = here .within;
+          later = omega (arith, here .later, t .later);
+          near = omega (arith, t .near);
+          read = rw (place-front 256 c a k row part (u .start) (u .wide) fits n) (gather-again _ c _ part (from pos bits) (from at bits) _ (t .read) (here .good good));
+          rest = place-rest 256 c a k row part old (u .start) (u .wide) fits n (t .rest);
+        }
+
+pub sets-end : {sheet : List ℕ} {b : ℕ} {old : List ℕ} {bits : List Bool} {pos c : ℕ} {row : List ℕ} {at : ℕ} → SetsRead sheet b old bits pos c row at → c ≡ channels sheet
+    → readSets sheet b old (from pos bits) ≡ ok row (from at bits)
+unfolding readSets
+sets-end {sheet} {b} {old} {bits} {pos} {c} {row} {at} t e = rw (take-all (256 * c) row (omega (arith, t .long)), e) at (t .read)

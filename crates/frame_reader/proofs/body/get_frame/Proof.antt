@@ -1,0 +1,44 @@
+-- The rows are the fronts of two local arrays of 0.
+use Prim.Native.Nat.{_-_, _*_, _≤_}
+use mathlib.Core.Path.{_≡_, ap, _∙_}
+use native.Mathlib.Omega.{arith}
+use borrow.Author.Needs.{needs}
+use lib.ListN.{length, length-replicate}
+use Rattle.frame_rows.specs.RowsLaws.{length-noRow, held-most}
+use Rattle.frame_reader.proofs.Clearing.{row-front}
+use Rattle.frame_reader.proofs.body.get_frame.Statement.{statement}
+use Rattle.frame_reader.proofs.body.get_frame.Tie as tie
+
+part-row-end : tie.Need-part-row-end
+part-row-end c = omega (arith, ap length (c .before .no-row .ensures) ∙ length-noRow, held-most (c .before .before .before .before .before .before .before .before .pre .0))
+
+part-held-end : tie.Need-part-held-end
+part-held-end c = omega (arith, ap length (c .before .no-row2 .ensures) ∙ length-noRow, held-most (c .before .before .before .before .before .before .before .before .before .pre .0))
+
+get-blocks-requires : tie.Need-get-blocks-requires
+get-blocks-requires c κs =
+    let n = 256 * c .before .before .before .before .before .before .before .before .before .before .before .before .before .args .track .channels in
+    let k : n - 0 ≡ n = omega arith in
+    let most : n ≤ 1536 = omega (arith, held-most (c .before .before .before .before .before .before .before .before .before .before .before .before .before .pre .0)) in
+    let row = row-front n (n - 0) _ (c .before .before .before .before .before .before .no-row .ensures) k most in
+    let held = row-front n (n - 0) _ (c .before .before .before .before .before .no-row2 .ensures) k most in
+    (c .before .before .before .before .before .before .before .before .before .before .before .before .before .pre .0, ((row, ap length held ∙ length-replicate n 0), c .before .before .before .before .before .before .before .before .before .before .before .before .before .pre .1))
+
+pub get-frame-spec : {M : Type 1} → statement M
+get-frame-spec =
+    tie.close
+    (tie.spec
+    (λ c. search needs)
+    (λ c κs. search needs)
+    (λ c κs. search needs)
+    (λ c. search needs)
+    (λ c. search needs)
+    part-row-end
+    (λ c. search needs)
+    (λ c. search needs)
+    part-held-end
+    get-blocks-requires
+    (λ c. search needs)
+    (λ c. search needs)
+    (λ c. search needs)
+    (λ c. search needs))

@@ -1,0 +1,67 @@
+-- How the code reads a body: what holds from block to block, and what a block's reading and the whole reading come to.
+use Prim.Native.Nat.{ℕ, _+_, _*_, _≤_}
+use mathlib.Core.Path.{_≡_}
+use mathlib.Core.Bool.{Bool}
+use mathlib.Core.List.{List}
+use lib.ListN.{length}
+use Rattle.bits.specs.Read.{from}
+use Rattle.bits.specs.Reading.{Outcome, ok, fault}
+use Rattle.bits.specs.Refusal as refusal
+use Rattle.frame.specs.Answers.{readingOf, readInto}
+use Rattle.frame.specs.Body.{bapRow}
+use Rattle.frame.specs.Layout.{channels}
+use Rattle.frame.specs.Reader.{Frame, grown, readBlock}
+use Rattle.frame.specs.declared.answer.FrameAnswer.{FrameAnswer}
+use Rattle.frame_rows.specs.Rows.{LowRow}
+use Rattle.frame_reader.specs.declared.block.BlockEnd.{BlockEnd}
+
+-- the parts of a frame that the call's buffers take
+abbrev pub expsOf : Frame → List ℕ
+expsOf frame = frame .exps
+
+abbrev pub bapOf : Frame → List ℕ
+bapOf frame = frame .bap
+
+abbrev pub codesOf : Frame → List ℕ
+codesOf frame = frame .codes
+
+-- no set has more bits than 4 and 84 groups, no row more than six sets, no block more than a row and 16 bits for each of 1,536 codes
+abbrev pub mostSet : ℕ
+mostSet = 592
+
+abbrev pub mostSets : ℕ
+mostSets = 3552
+
+abbrev pub mostBlock : ℕ
+mostBlock = 28128
+
+-- ---- a block
+
+-- what holds when block b begins: exponents of at most 24, and their allocation once a block was read
+pub record HeldRows (sheet : List ℕ) (b : ℕ) (row bap : List ℕ) : Type 0 where
+  pub row-long : length row ≡ 256 * channels sheet
+  pub bap-long : length bap ≡ 256 * channels sheet
+  pub low : LowRow sheet row
+  pub kept : (b ≡ 0 → ⊥) → bap ≡ bapRow sheet row
+
+-- a block with a fault
+abbrev pub noBlock : ℕ → ℕ → BlockEnd
+noBlock number pos = record { fault = number; pos = pos; sets = 0; stream = 0 }
+
+-- block b was read at pos, from any state whose row is `old`
+pub record CameBlock (sheet : List ℕ) (b : ℕ) (old : List ℕ) (bits : List Bool) (pos : ℕ) (row bap codes : List ℕ) (r : BlockEnd) : Type 0 where
+  pub good : r .fault ≡ refusal.accepted → (s : Frame) → s .row ≡ old
+      → readBlock sheet b s (from pos bits) ≡ ok (grown s row bap codes (r .sets) (r .stream)) (from (r .pos) bits)
+  pub bad : (r .fault ≡ refusal.accepted → ⊥) → (s : Frame) → s .row ≡ old → readBlock sheet b s (from pos bits) ≡ fault (r .fault)
+  pub rows : r .fault ≡ refusal.accepted → HeldRows sheet (b + 1) row bap
+  pub within : r .pos ≤ length bits
+  pub near : r .pos ≤ pos + mostBlock
+
+-- ---- the six blocks
+
+-- the whole reading: its answer, and what the buffers hold where there was no fault
+pub record CameFrame (outcome : Outcome Frame) (bits : List Bool) (exps bap codes : List ℕ) (r : FrameAnswer) : Type 0 where
+  pub answer : r ≡ readingOf bits outcome
+  pub exps-read : r .refusal ≡ refusal.accepted → (n : ℕ) → exps ≡ readInto expsOf n outcome
+  pub bap-read : r .refusal ≡ refusal.accepted → (n : ℕ) → bap ≡ readInto bapOf n outcome
+  pub codes-read : r .refusal ≡ refusal.accepted → (n : ℕ) → codes ≡ readInto codesOf n outcome

@@ -1,0 +1,119 @@
+// The call that reads a body.
+use crate::blocks::get_blocks;
+use bits::refusal::ACCEPTED;
+use bits::refusal::WRONG_LENGTH;
+use frame::FrameAnswer;
+use frame::Track;
+ghost use mathlib.Core.Path.{_≡_};
+ghost use Prim.Native.Nat.{_*_};
+ghost use lib.ListN.{length, replicate};
+ghost use Rattle.bits.specs.Field.{bitsOf};
+ghost use Rattle.frame.specs.Answers.{readAnswer, readLeft, reached, readingOf, readInto};
+ghost use Rattle.frame.specs.Reader.{readFrame};
+ghost use Rattle.frame.specs.Under.{Under};
+ghost use Rattle.frame_reader.specs.Reading.{CameFrame, expsOf, bapOf, codesOf};
+
+fn clear(to: &mut [u8])
+    ensures { λ _. ⌜ now (to .exit) ≡ replicate (length (now (to .entry))) 0 ⌝ }
+{
+    for i in 0..to.len() {
+        to[i] = 0;
+    }
+}
+
+fn clear_codes(codes: &mut [u16])
+    ensures { λ _. ⌜ now (codes .exit) ≡ replicate (length (now (codes .entry))) 0 ⌝ }
+{
+    for i in 0..codes.len() {
+        codes[i] = 0;
+    }
+}
+
+// The six blocks, with rows of its own for what holds from block to block.
+fn get_frame(
+    sheet: &[u8],
+    track: Track,
+    strategies: [[u8; 6]; 6],
+    input: &[u8],
+    exps: &mut [u8],
+    bap: &mut [u8],
+    codes: &mut [u16],
+) -> FrameAnswer
+    requires { ⌜ Under (now sheet) track strategies ⌝ }
+    requires { ⌜ (length (now exps) ≡ 256 * track .channels * 6) × (length (now bap) ≡ 256 * track .channels * 6) × (length (now codes) ≡ 256 * track .channels * 6) ⌝ }
+    ensures { λ r. ⌜ CameFrame (readFrame (now (sheet .entry)) (bitsOf (now (input .entry)))) (bitsOf (now (input .entry))) (now (exps .exit)) (now (bap .exit)) (now (codes .exit)) r ⌝ }
+{
+    let n = 256 * track.channels;
+    let mut row = frame_rows::no_row();
+    let mut held = frame_rows::no_row();
+    get_blocks(
+        sheet,
+        track,
+        strategies,
+        input,
+        &mut row[0..n],
+        &mut held[0..n],
+        exps,
+        bap,
+        codes,
+    )
+}
+
+// The frame, or all 0 after a fault.
+fn read_frame(
+    sheet: &[u8],
+    track: Track,
+    strategies: [[u8; 6]; 6],
+    input: &[u8],
+    exps: &mut [u8],
+    bap: &mut [u8],
+    codes: &mut [u16],
+) -> FrameAnswer
+    requires { ⌜ Under (now sheet) track strategies ⌝ }
+    requires { ⌜ (length (now exps) ≡ 256 * track .channels * 6) × (length (now bap) ≡ 256 * track .channels * 6) × (length (now codes) ≡ 256 * track .channels * 6) ⌝ }
+    ensures { λ r. ⌜ r ≡ readingOf (bitsOf (now (input .entry))) (readFrame (now (sheet .entry)) (bitsOf (now (input .entry)))) ⌝ }
+    ensures { λ r. ⌜ now (exps .exit) ≡ readInto expsOf (length (now (exps .entry))) (readFrame (now (sheet .entry)) (bitsOf (now (input .entry)))) ⌝ }
+    ensures { λ r. ⌜ now (bap .exit) ≡ readInto bapOf (length (now (bap .entry))) (readFrame (now (sheet .entry)) (bitsOf (now (input .entry)))) ⌝ }
+    ensures { λ r. ⌜ now (codes .exit) ≡ readInto codesOf (length (now (codes .entry))) (readFrame (now (sheet .entry)) (bitsOf (now (input .entry)))) ⌝ }
+{
+    let r = get_frame(sheet, track, strategies, input, exps, bap, codes);
+    if r.refusal != ACCEPTED {
+        clear(exps);
+        clear(bap);
+        clear_codes(codes);
+        return r;
+    }
+    r
+}
+
+// Document 01, "When a call is turned back": 1, 2, 10, then 7, 8, 9 as met.
+pub fn read_body(
+    sheet: &[u8],
+    input: &[u8],
+    exps: &mut [u8],
+    bap: &mut [u8],
+    codes: &mut [u16],
+) -> FrameAnswer
+    ensures { λ r. ⌜ r ≡ readAnswer (now (sheet .entry)) (bitsOf (now (input .entry))) (length (now (exps .entry))) (length (now (bap .entry))) (length (now (codes .entry))) ⌝ }
+    ensures { λ _. ⌜ now (exps .exit) ≡ readLeft (reached (now (sheet .entry)) (length (now (exps .entry))) (length (now (bap .entry))) (length (now (codes .entry)))) expsOf (readFrame (now (sheet .entry)) (bitsOf (now (input .entry)))) (now (exps .entry)) ⌝ }
+    ensures { λ _. ⌜ now (bap .exit) ≡ readLeft (reached (now (sheet .entry)) (length (now (exps .entry))) (length (now (bap .entry))) (length (now (codes .entry)))) bapOf (readFrame (now (sheet .entry)) (bitsOf (now (input .entry)))) (now (bap .entry)) ⌝ }
+    ensures { λ _. ⌜ now (codes .exit) ≡ readLeft (reached (now (sheet .entry)) (length (now (exps .entry))) (length (now (bap .entry))) (length (now (codes .entry)))) codesOf (readFrame (now (sheet .entry)) (bitsOf (now (input .entry)))) (now (codes .entry)) ⌝ }
+{
+    let check = sheet::check_sheet(sheet);
+    if check != ACCEPTED {
+        return frame::refused(check);
+    }
+    let track = frame::track_of(sheet);
+    let n = sheet::buffer_length(track.channels);
+    if exps.len() != n {
+        return frame::refused(WRONG_LENGTH);
+    }
+    if bap.len() != n {
+        return frame::refused(WRONG_LENGTH);
+    }
+    if codes.len() != n {
+        return frame::refused(WRONG_LENGTH);
+    }
+    let strategies = sheet::strategies_of(sheet);
+    read_frame(sheet, track, strategies, input, exps, bap, codes)
+}

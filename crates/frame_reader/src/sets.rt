@@ -1,0 +1,72 @@
+// The exponents of a block, read in place over those of the block before.
+use bits::ReadEnd;
+use bits::refusal::ACCEPTED;
+use frame::Track;
+ghost use mathlib.Core.Path.{_≡_};
+ghost use mathlib.Core.Bool.{true};
+ghost use Prim.Native.Nat.{_+_, _*_, _^_, _≤_, _<_};
+ghost use lib.ListN.{length};
+ghost use Rattle.bits.specs.Field.{bitsOf};
+ghost use Rattle.bits.specs.Read.{from};
+ghost use Rattle.bits.specs.Reading.{Came};
+ghost use Rattle.sheet.specs.Ranges.{legalEnd};
+ghost use Rattle.frame.specs.Reader.{readPart, readSets};
+ghost use Rattle.frame.specs.Under.{Under};
+ghost use Rattle.frame_reader.specs.Reading.{mostSet, mostSets};
+
+// The strategy of a block that repeats the exponents of the block before.
+const REUSE: u8 = 0;
+
+// A channel's part: left where its block is reuse, read where it has a new set.
+fn get_part(input: &[u8], pos: usize, strategy: u8, end: usize, part: &mut [u8]) -> ReadEnd
+    requires { ⌜ (pos ≤ 8 * length (now input)) × (pos < 2 ^ 32) ⌝ }
+    requires { ⌜ (legalEnd end ≡ true) × (end ≤ 256) × (length (now part) ≡ 256) ⌝ }
+    ensures { λ r. ⌜ Came (readPart strategy end (now (part .entry)) (from pos (bitsOf (now (input .entry))))) (now (part .exit)) (bitsOf (now (input .entry))) pos r ⌝ }
+    ensures { λ r. ⌜ r .pos ≤ pos + mostSet ⌝ }
+{
+    if strategy == REUSE {
+        return ReadEnd {
+            fault: ACCEPTED,
+            pos,
+        };
+    }
+    let span = frame::span_for(strategy);
+    exponents::get_exponents(input, pos, end, span, part)
+}
+
+// The row of block b.
+pub fn get_sets(
+    sheet: &[u8],
+    track: Track,
+    strategies: [[u8; 6]; 6],
+    b: usize,
+    input: &[u8],
+    pos: usize,
+    row: &mut [u8],
+) -> ReadEnd
+    requires { ⌜ Under (now sheet) track strategies ⌝ }
+    requires { ⌜ (b < 6) × (length (now row) ≡ 256 * track .channels) ⌝ }
+    requires { ⌜ (pos ≤ 8 * length (now input)) × (pos < 2 ^ 31) ⌝ }
+    ensures { λ r. ⌜ Came (readSets (now (sheet .entry)) b (now (row .entry)) (from pos (bitsOf (now (input .entry))))) (now (row .exit)) (bitsOf (now (input .entry))) pos r ⌝ }
+    ensures { λ r. ⌜ r .pos ≤ pos + mostSets ⌝ }
+{
+    let mut at = pos;
+    for c in 0..track.channels {
+        let strategy = frame::strategy_at(strategies, b, c);
+        let end = track.ends[c];
+        let a = 256 * c;
+        let e = a + 256;
+        let r = get_part(input, at, strategy, end, &mut row[a..e]);
+        if r.fault != ACCEPTED {
+            return ReadEnd {
+                fault: r.fault,
+                pos,
+            };
+        }
+        at = r.pos;
+    }
+    ReadEnd {
+        fault: ACCEPTED,
+        pos: at,
+    }
+}

@@ -1,0 +1,4 @@
+pub mod Rows
+pub mod LegalLaws
+pub mod RowsLaws
+pub mod CleanLaws

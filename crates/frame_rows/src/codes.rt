@@ -1,0 +1,58 @@
+// Codes without what stands from an end on, which is ignored (document 01, "The track sheet").
+ghost use mathlib.Core.Path.{_≡_};
+ghost use mathlib.Core.Bool.{cond};
+ghost use Prim.Native.Nat.{_*_, _≤_};
+ghost use lib.Dec.{ltb};
+ghost use lib.ListN.{length};
+ghost use Rattle.frame.specs.Layout.{clean, cleanRow};
+ghost use Rattle.frame.specs.Under.{Under};
+ghost use Rattle.frame_rows.specs.Rows.{cleaned};
+use frame::Track;
+
+// The code of a bin: 0 from end on.
+fn code_below(code: u16, bin: usize, end: usize) -> u16
+    ensures { λ r. ⌜ r ≡ cond (ltb bin end) code 0 ⌝ }
+{
+    if bin < end { code } else { 0 }
+}
+
+fn clean_part(codes: &[u16], end: usize, to: &mut [u16])
+    requires { ⌜ (end ≤ 256) × (length (now codes) ≡ 256) × (length (now to) ≡ 256) ⌝ }
+    ensures { λ _. ⌜ now (to .exit) ≡ clean end (now (codes .entry)) ⌝ }
+{
+    for bin in 0..256 {
+        to[bin] = code_below(codes[bin], bin, end);
+    }
+}
+
+fn clean_row(sheet: &[u8], track: Track, strategies: [[u8; 6]; 6], codes: &[u16], to: &mut [u16])
+    requires { ⌜ Under (now sheet) track strategies ⌝ }
+    requires { ⌜ (length (now codes) ≡ 256 * track .channels) × (length (now to) ≡ 256 * track .channels) ⌝ }
+    ensures { λ _. ⌜ now (to .exit) ≡ cleanRow (now (sheet .entry)) (now (codes .entry)) ⌝ }
+{
+    for c in 0..track.channels {
+        let end = track.ends[c];
+        let a = 256 * c;
+        let e = a + 256;
+        clean_part(&codes[a..e], end, &mut to[a..e]);
+    }
+}
+
+pub fn clean_codes(
+    sheet: &[u8],
+    track: Track,
+    strategies: [[u8; 6]; 6],
+    codes: &[u16],
+    to: &mut [u16],
+)
+    requires { ⌜ Under (now sheet) track strategies ⌝ }
+    requires { ⌜ (length (now codes) ≡ 256 * track .channels * 6) × (length (now to) ≡ 256 * track .channels * 6) ⌝ }
+    ensures { λ _. ⌜ now (to .exit) ≡ cleaned (now (sheet .entry)) (now (codes .entry)) ⌝ }
+{
+    let n = 256 * track.channels;
+    for b in 0..6 {
+        let a = n * b;
+        let e = a + n;
+        clean_row(sheet, track, strategies, &codes[a..e], &mut to[a..e]);
+    }
+}

@@ -1,0 +1,27 @@
+-- Which coefficients a frame may have (document 01, cause 3): each one below its channel's end is finite; entries from end on are ignored.
+use Prim.Native.Nat.{ℕ, _*_}
+use mathlib.Core.Bool.{Bool, true, _&&_}
+use mathlib.Core.List.{List, [], _∷_}
+use mathlib.Core.Path.{_≡_}
+use lib.Ieee.{Float}
+use lib.Ieee.Scale.{finite}
+use lib.ListN.{length}
+use Rattle.frame.specs.Layout.{channels}
+use Rattle.sheet.specs.Ranges.{allBelow}
+use Rattle.frame_runs.specs.Runs.{belowEnd}
+
+unfoldable pub finitePart : List Float → Bool
+finitePart [] = true
+finitePart (x ∷ xs) = finite x && finitePart xs
+
+-- those of block b
+unfoldable pub finiteRow : List ℕ → List Float → ℕ → Bool
+finiteRow sheet coeffs b = allBelow (channels sheet) (λ c. finitePart (belowEnd sheet b c coeffs))
+
+unfoldable pub allFinite : List ℕ → List Float → Bool
+allFinite sheet coeffs = allBelow 6 (finiteRow sheet coeffs)
+
+-- the coefficients of a whole frame, all of them finite below the ends
+pub record Encodable (sheet : List ℕ) (coeffs : List Float) : Type 0 where
+  pub whole : length coeffs ≡ 256 * channels sheet * 6
+  pub finite : allFinite sheet coeffs ≡ true

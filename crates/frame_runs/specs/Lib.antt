@@ -1,0 +1,11 @@
+pub mod Runs
+pub mod Finite
+pub mod FiniteLaws
+pub mod RunsLaws
+pub mod Lengths
+pub mod Filling
+pub mod TwoParts
+pub mod FramedLaws
+pub mod Carried
+pub mod CarriedLaws
+pub mod RunsLegal

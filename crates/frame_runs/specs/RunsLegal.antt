@@ -1,0 +1,131 @@
+-- The exponents that are worked out of coefficients are legal: each new set is shaped for its strategy, each reuse block repeats the
+-- block before, and there is nothing from an end on.
+use Prim.Native.Nat.{ℕ, zero, suc, _-_, _*_, _<_}
+use mathlib.Core.Bool.{Bool, true}
+use mathlib.Core.List.{List, [], _∷_, _++_}
+use mathlib.Core.Path.{_≡_, refl, sym, ap, _∙_}
+use native.Mathlib.Omega.{arith}
+use lib.Ieee.{Float}
+use lib.ListN.{length, take, replicate}
+use lib.Seq.{take-at}
+use borrow.Author.Tests.{eq-eqb, ne-eqb}
+use Rattle.bits.specs.Parts.{piece}
+use Rattle.bits.specs.Refusal as refusal
+use Rattle.frame.specs.Layout.{channels, endAt, strategyAt, spanFor, rowOf, clean}
+use Rattle.frame.specs.Legal.{alike, partLegal, rowLegal, expsLegal}
+use Rattle.frame.specs.Reader.{earlier}
+use Rattle.frame.specs.Under.{channel-known, span-known}
+use Rattle.frame_rows.specs.LegalLaws.{earlier-taken}
+use Rattle.frame_rows.specs.Rows.{cleaned}
+use Rattle.shaping.specs.Shaped.{shapedFor, shaped-of}
+use Rattle.shaping.specs.ShapedLaws.{run-shaped}
+use Rattle.sheet.specs.Ranges.{allBelow}
+use Rattle.sheet.specs.Sheet.{checkOf}
+use Rattle.frame_runs.specs.FramedLaws.{length-framed, part-framed, framed-clean}
+use Rattle.frame_runs.specs.Lengths.{length-runLeast, length-runExponents, length-partAt}
+use Rattle.frame_runs.specs.Runs.{runLeast, runExponents, runPart, partAt, expsOf}
+
+-- ---- tests that hold
+
+pub all-hold : (n : ℕ) (f : ℕ → Bool) → ((i : ℕ) → i < n → f i ≡ true) → allBelow n f ≡ true
+all-hold zero f h = refl
+all-hold (suc n) f h = rw (all-hold n f (λ i l. h i (omega arith)), h n (omega arith))
+
+repeated : (x : List ℕ) → alike x x ≡ true
+unfolding alike
+repeated [] = refl
+repeated (x ∷ xs) = rw (eq-eqb x x refl) (repeated xs)
+
+legal-reuse : (s end : ℕ) (old part : List ℕ) → s ≡ 0 → take end old ≡ take end part → partLegal s end old part ≡ true
+unfolding partLegal
+legal-reuse zero end old part z e = rw e (repeated (take end part))
+legal-reuse (suc s) end old part z e = absurd (omega arith)
+
+legal-new : (s end : ℕ) (old part : List ℕ) → (s ≡ 0 → ⊥) → shapedFor (spanFor s - 1) (take end part) ≡ true → partLegal s end old part ≡ true
+unfolding partLegal
+legal-new zero end old part z h = absurd (z refl)
+legal-new (suc s) end old part z h = h
+
+module _ (sheet : List ℕ) (coeffs : List Float) (accepted : checkOf sheet ≡ refusal.accepted) (whole : length coeffs ≡ 256 * channels sheet * 6) where
+  -- ---- a channel's part of a block
+
+  module _ (b c : ℕ) (hb : b < 6) (hc : c < channels sheet) where
+    run-taken : take (endAt sheet c) (runPart sheet coeffs b c) ≡ runExponents sheet coeffs b c
+    unfolding runPart
+    run-taken = take-at (runExponents sheet coeffs b c) _ (endAt sheet c) (length-runExponents sheet coeffs accepted whole c hc b hb)
+
+    run-clean : clean (endAt sheet c) (runPart sheet coeffs b c) ≡ runPart sheet coeffs b c
+    unfolding clean runPart
+    run-clean = ap (λ (l : List ℕ). l ++ replicate (256 - endAt sheet c) 0) run-taken
+
+    run-legal : (old : List ℕ) → (strategyAt sheet b c ≡ 0 → ⊥) → partLegal (strategyAt sheet b c) (endAt sheet c) old (runPart sheet coeffs b c) ≡ true
+    unfolding runExponents
+    run-legal old new =
+        let least = length-runLeast sheet coeffs accepted whole c hc b hb in
+        let most = channel-known sheet accepted c hc .end-most in
+        legal-new (strategyAt sheet b c) (endAt sheet c) old (runPart sheet coeffs b c) new
+        (rw run-taken (shaped-of _ _ (run-shaped (spanFor (strategyAt sheet b c)) (runLeast sheet coeffs b c) (span-known (strategyAt sheet b c) new) (omega arith))))
+
+  first-new : (c : ℕ) → c < channels sheet → strategyAt sheet 0 c ≡ 0 → ⊥
+  first-new c hc z = let first = channel-known sheet accepted c hc .first in omega arith
+
+  by-strategy : {X : Type 0} (s : ℕ) → (s ≡ 0 → X) → ((s ≡ 0 → ⊥) → X) → X
+  by-strategy zero reuse new = reuse refl
+  by-strategy (suc s) reuse new = new (λ z. omega arith)
+
+  reuse-part : (b c : ℕ) → strategyAt sheet (suc b) c ≡ 0 → partAt sheet coeffs (suc b) c ≡ partAt sheet coeffs b c
+  unfolding partAt
+  reuse-part b c z = rw (eq-eqb _ _ z)
+
+  new-part : (b c : ℕ) → (strategyAt sheet b c ≡ 0 → ⊥) → partAt sheet coeffs b c ≡ runPart sheet coeffs b c
+  unfolding partAt
+  new-part zero c new = refl
+  new-part (suc b) c new = rw (ne-eqb _ _ new)
+
+  part-clean : (b c : ℕ) → b < 6 → c < channels sheet → clean (endAt sheet c) (partAt sheet coeffs b c) ≡ partAt sheet coeffs b c
+  part-clean zero c hb hc = rw (new-part 0 c (first-new c hc)) (run-clean 0 c hb hc)
+  part-clean (suc b) c hb hc =
+      by-strategy (strategyAt sheet (suc b) c)
+      (λ z. rw (reuse-part b c z) (part-clean b c (omega arith) hc))
+      (λ new. rw (new-part (suc b) c new) (run-clean (suc b) c hb hc))
+
+  -- ---- the frame
+
+  abbrev long : (b c : ℕ) → b < 6 → c < channels sheet → length (partAt sheet coeffs b c) ≡ 256
+  long = length-partAt sheet coeffs accepted whole
+
+  pub length-expsOf : length (expsOf sheet coeffs) ≡ 256 * channels sheet * 6
+  unfolding expsOf
+  length-expsOf = length-framed sheet (partAt sheet coeffs) long
+
+  pub part-expsOf : (b c : ℕ) → b < 6 → c < channels sheet → piece 256 c (rowOf sheet b (expsOf sheet coeffs)) ≡ partAt sheet coeffs b c
+  unfolding expsOf
+  part-expsOf = part-framed sheet (partAt sheet coeffs) long
+
+  -- nothing stands from an end on
+  pub expsOf-clean : cleaned sheet (expsOf sheet coeffs) ≡ expsOf sheet coeffs
+  unfolding expsOf
+  expsOf-clean = framed-clean sheet (partAt sheet coeffs) long part-clean
+
+  part-legal : (b c : ℕ) → b < 6 → c < channels sheet
+      → partLegal (strategyAt sheet b c) (endAt sheet c) (piece 256 c (earlier sheet (expsOf sheet coeffs) b)) (partAt sheet coeffs b c) ≡ true
+  part-legal zero c hb hc = rw (new-part 0 c (first-new c hc)) (run-legal 0 c hb hc _ (first-new c hc))
+  part-legal (suc b) c hb hc =
+      let exps = expsOf sheet coeffs in
+      by-strategy (strategyAt sheet (suc b) c)
+      (λ z. legal-reuse (strategyAt sheet (suc b) c) (endAt sheet c) (piece 256 c (earlier sheet exps (suc b))) (partAt sheet coeffs (suc b) c) z
+      (earlier-taken sheet exps accepted length-expsOf b c hb hc ∙ ap (take (endAt sheet c)) (part-expsOf b c (omega arith) hc ∙ sym (reuse-part b c z))))
+      (λ new. rw (new-part (suc b) c new) (run-legal (suc b) c hb hc _ new))
+
+  row-legal : (b : ℕ) → b < 6 → rowLegal sheet b (earlier sheet (expsOf sheet coeffs) b) (rowOf sheet b (expsOf sheet coeffs)) ≡ true
+  unfolding rowLegal
+  row-legal b hb =
+      let old = earlier sheet (expsOf sheet coeffs) b in
+      let row = rowOf sheet b (expsOf sheet coeffs) in
+      all-hold (channels sheet) (λ c. partLegal (strategyAt sheet b c) (endAt sheet c) (piece 256 c old) (piece 256 c row))
+      (λ c hc. rw (part-expsOf b c hb hc) (part-legal b c hb hc))
+
+  -- cause 4 is never met
+  pub expsOf-legal : expsLegal sheet (expsOf sheet coeffs) ≡ true
+  unfolding expsLegal
+  expsOf-legal = all-hold 6 (λ b. rowLegal sheet b (earlier sheet (expsOf sheet coeffs) b) (rowOf sheet b (expsOf sheet coeffs))) row-legal

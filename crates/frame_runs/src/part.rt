@@ -1,0 +1,163 @@
+// A channel's part of a block that begins a run: the least exponents of the run's blocks, shaped.
+ghost use mathlib.Core.Path.{_≡_};
+ghost use mathlib.Core.Bool.{true};
+ghost use Prim.Native.Nat.{_-_, _<_, _≤_, min};
+ghost use lib.ListN.{length, replicate};
+ghost use Rattle.frame.specs.Layout.{channels, endAt};
+ghost use Rattle.frame.specs.Under.{Under};
+ghost use Rattle.frame_runs.specs.Finite.{finitePart, Encodable};
+ghost use Rattle.frame_runs.specs.Runs.{exponentsOf, leastOf, leastFrom, runLeast, runExponents, runPart};
+ghost use Rattle.frame_runs.specs.Carried.{nextPart};
+use frame::Track;
+
+fn least(a: u8, b: u8) -> u8
+    ensures { λ r. ⌜ r ≡ min a b ⌝ }
+{
+    if a < b { a } else { b }
+}
+
+// The exponents of a block's coefficients.
+fn extract_part(coeffs: &[f32], part: &mut [u8])
+    requires { ⌜ finitePart (now coeffs) ≡ true ⌝ }
+    requires { ⌜ length (now part) ≡ length (now coeffs) ⌝ }
+    ensures { λ _. ⌜ now (part .exit) ≡ exponentsOf (now (coeffs .entry)) ⌝ }
+{
+    let mut i = 0;
+    while i < part.len() {
+        part[i] = shaping::exponent_of(coeffs[i]);
+        i += 1;
+    }
+}
+
+// The least of those so far and those of one more block.
+fn lower_part(coeffs: &[f32], part: &mut [u8])
+    requires { ⌜ finitePart (now coeffs) ≡ true ⌝ }
+    requires { ⌜ length (now part) ≡ length (now coeffs) ⌝ }
+    ensures { λ _. ⌜ now (part .exit) ≡ leastOf (now (part .entry)) (exponentsOf (now (coeffs .entry))) ⌝ }
+{
+    let mut i = 0;
+    while i < part.len() {
+        part[i] = least(part[i], shaping::exponent_of(coeffs[i]));
+        i += 1;
+    }
+}
+
+fn clear(part: &mut [u8])
+    ensures { λ _. ⌜ now (part .exit) ≡ replicate (length (now (part .entry))) 0 ⌝ }
+{
+    let mut i = 0;
+    while i < part.len() {
+        part[i] = 0;
+        i += 1;
+    }
+}
+
+// The least of those so far and those of the reuse blocks from `first` on.
+fn lower_by_reuse(
+    sheet: &[u8],
+    track: Track,
+    strategies: [[u8; 6]; 6],
+    coeffs: &[f32],
+    c: usize,
+    first: usize,
+    part: &mut [u8],
+)
+    requires { ⌜ Under (now sheet) track strategies ⌝ }
+    requires { ⌜ Encodable (now sheet) (now coeffs) ⌝ }
+    requires { ⌜ (c < channels (now sheet)) × (first ≤ 6) × (length (now part) ≡ endAt (now sheet) c) ⌝ }
+    ensures { λ _. ⌜ now (part .exit) ≡ leastFrom (now (sheet .entry)) (now (coeffs .entry)) c (6 - first) first (now (part .entry)) ⌝ }
+{
+    let mut b = first;
+    while b < 6 {
+        if frame::strategy_at(strategies, b, c) != 0 {
+            return;
+        }
+        let a = sheet::part_start(track.channels, b, c);
+        let e = a + track.ends[c];
+        lower_part(&coeffs[a..e], part);
+        b += 1;
+    }
+}
+
+// The least exponents of the run that begins with block b.
+fn run_least(
+    sheet: &[u8],
+    track: Track,
+    strategies: [[u8; 6]; 6],
+    coeffs: &[f32],
+    b: usize,
+    c: usize,
+    part: &mut [u8],
+)
+    requires { ⌜ Under (now sheet) track strategies ⌝ }
+    requires { ⌜ Encodable (now sheet) (now coeffs) ⌝ }
+    requires { ⌜ (b < 6) × (c < channels (now sheet)) × (length (now part) ≡ endAt (now sheet) c) ⌝ }
+    ensures { λ _. ⌜ now (part .exit) ≡ runLeast (now (sheet .entry)) (now (coeffs .entry)) b c ⌝ }
+{
+    let a = sheet::part_start(track.channels, b, c);
+    let e = a + track.ends[c];
+    extract_part(&coeffs[a..e], part);
+    lower_by_reuse(sheet, track, strategies, coeffs, c, b + 1, part);
+}
+
+// They are shaped: `preprocess_d15`, then the strategy's span.
+fn run_exponents(
+    sheet: &[u8],
+    track: Track,
+    strategies: [[u8; 6]; 6],
+    coeffs: &[f32],
+    b: usize,
+    c: usize,
+    part: &mut [u8],
+)
+    requires { ⌜ Under (now sheet) track strategies ⌝ }
+    requires { ⌜ Encodable (now sheet) (now coeffs) ⌝ }
+    requires { ⌜ (b < 6) × (c < channels (now sheet)) × (length (now part) ≡ endAt (now sheet) c) ⌝ }
+    ensures { λ _. ⌜ now (part .exit) ≡ runExponents (now (sheet .entry)) (now (coeffs .entry)) b c ⌝ }
+{
+    run_least(sheet, track, strategies, coeffs, b, c, part);
+    shaping::preprocess_d15(part);
+    let span = frame::span_for(frame::strategy_at(strategies, b, c));
+    shaping::quantise_exponents_to_grpsize(part, span);
+}
+
+// Block b begins a run.
+fn begin_run(
+    sheet: &[u8],
+    track: Track,
+    strategies: [[u8; 6]; 6],
+    coeffs: &[f32],
+    b: usize,
+    c: usize,
+    part: &mut [u8],
+)
+    requires { ⌜ Under (now sheet) track strategies ⌝ }
+    requires { ⌜ Encodable (now sheet) (now coeffs) ⌝ }
+    requires { ⌜ (b < 6) × (c < channels (now sheet)) × (length (now part) ≡ 256) ⌝ }
+    ensures { λ _. ⌜ now (part .exit) ≡ runPart (now (sheet .entry)) (now (coeffs .entry)) b c ⌝ }
+{
+    let end = track.ends[c];
+    run_exponents(sheet, track, strategies, coeffs, b, c, &mut part[0..end]);
+    clear(&mut part[end..256]);
+}
+
+// A channel's part of block b, over that of the block before: a reuse block leaves it.
+pub(crate) fn next_part(
+    sheet: &[u8],
+    track: Track,
+    strategies: [[u8; 6]; 6],
+    coeffs: &[f32],
+    b: usize,
+    c: usize,
+    part: &mut [u8],
+)
+    requires { ⌜ Under (now sheet) track strategies ⌝ }
+    requires { ⌜ Encodable (now sheet) (now coeffs) ⌝ }
+    requires { ⌜ (b < 6) × (c < channels (now sheet)) × (length (now part) ≡ 256) ⌝ }
+    ensures { λ _. ⌜ now (part .exit) ≡ nextPart (now (sheet .entry)) (now (coeffs .entry)) b c (now (part .entry)) ⌝ }
+{
+    if frame::strategy_at(strategies, b, c) == 0 {
+        return;
+    }
+    begin_run(sheet, track, strategies, coeffs, b, c, part);
+}

@@ -1,0 +1,31 @@
+-- The sheet's number, or the work under an accepted sheet.
+use mathlib.Core.Path.{sym, _∙_}
+use borrow.Author.Needs.{needs}
+use Rattle.frame_writer.specs.Answers.{write-sheet, left-refused}
+use Rattle.frame_writer.proofs.write.write_body.Statement.{statement}
+use Rattle.frame_writer.proofs.write.write_body.Tie as tie
+
+returns : tie.Need-returns
+returns c =
+    let n = c .before .before .check-sheet .ensures in
+    let e = c .refused .ensures in
+    ((rw n at e) ∙ write-sheet _ _ _ _ (λ h. c .before .if1 .taken (n ∙ h)), left-refused _ _ e (c .before .if1 .taken))
+
+write-under-requires : tie.Need-write-under-requires
+write-under-requires c κs = record { accepted = sym (c .before .before .before .before .check-sheet .ensures) ∙ c .before .before .before .if1 .left; by-value = c .before .before .track-of .ensures; table = c .before .strategies-of .ensures }
+
+returns-2 : tie.Need-returns-2
+returns-2 c = c .before .before .write-under .ensures
+
+pub write-body-spec : {M : Type 1} → statement M
+write-body-spec =
+    tie.close
+    (tie.spec
+    (λ c κs. search needs)
+    (λ c κs. search needs)
+    returns
+    (λ c κs. search needs)
+    (λ c κs. search needs)
+    write-under-requires
+    (λ c. search needs)
+    returns-2)

@@ -1,0 +1,135 @@
+// `write_body`: the tests in the order of document 01, "When a call is turned back", one function for each, then the body.
+// Each function has the whole call's contract; what was tested before it is its `requires`.
+ghost use mathlib.Core.Path.{_≡_};
+ghost use mathlib.Core.Bool.{true};
+ghost use Prim.Native.Nat.{_*_};
+ghost use lib.ListN.{length};
+ghost use Rattle.frame.specs.Answers.{writeAnswer, bodyLeft};
+ghost use Rattle.frame.specs.Body.{bodyBits};
+ghost use Rattle.frame.specs.Legal.{expsLegal, LegalFrame};
+ghost use Rattle.frame.specs.Under.{Under};
+ghost use Rattle.frame_rows.specs.Rows.{bapsOf, cleaned};
+use crate::legal::codes_legal;
+use crate::legal::exps_legal;
+use bits::refusal::ACCEPTED;
+use bits::refusal::BAD_CODE;
+use bits::refusal::BAD_EXPONENT;
+use bits::refusal::NO_ROOM;
+use bits::refusal::WRONG_LENGTH;
+use frame::FrameAnswer;
+use frame::Track;
+
+// A legal frame, its codes clean: refused only where the output is too short.
+fn write_legal(
+    sheet: &[u8],
+    track: Track,
+    strategies: [[u8; 6]; 6],
+    exps: &[u8],
+    bap: &[u8],
+    codes: &[u16],
+    out: &mut [u8],
+) -> FrameAnswer
+    requires { ⌜ Under (now sheet) track strategies ⌝ }
+    requires { ⌜ (length (now exps) ≡ 256 * track .channels * 6) × (length (now bap) ≡ 256 * track .channels * 6) × (length (now codes) ≡ 256 * track .channels * 6) ⌝ }
+    requires { ⌜ LegalFrame (now sheet) (now exps) (now codes) ⌝ }
+    requires { ⌜ (now bap ≡ bapsOf (now sheet) (now exps)) × (cleaned (now sheet) (now codes) ≡ now codes) ⌝ }
+    ensures { λ r. ⌜ r ≡ writeAnswer (now (sheet .entry)) (now (exps .entry)) (now (codes .entry)) (length (now (out .entry))) ⌝ }
+    ensures { λ r. ⌜ now (out .exit) ≡ bodyLeft r (bodyBits (now (sheet .entry)) (now (exps .entry)) (now (codes .entry))) (now (out .entry)) ⌝ }
+{
+    let counts = frame_body::count_body(sheet, track, strategies, exps, bap, codes);
+    let bits = frame_body::body_size(counts);
+    if out.len() < ((bits + 7) / 8) as usize {
+        return frame::refused(NO_ROOM);
+    }
+    frame_body::store_body(out, sheet, track, strategies, exps, bap, codes);
+    FrameAnswer {
+        refusal: ACCEPTED,
+        counts: counts,
+        bits: bits,
+    }
+}
+
+// Legal exponents and their bap: the codes are tested next.
+fn write_shaped(
+    sheet: &[u8],
+    track: Track,
+    strategies: [[u8; 6]; 6],
+    exps: &[u8],
+    bap: &[u8],
+    codes: &[u16],
+    out: &mut [u8],
+) -> FrameAnswer
+    requires { ⌜ Under (now sheet) track strategies ⌝ }
+    requires { ⌜ (length (now exps) ≡ 256 * track .channels * 6) × (length (now bap) ≡ 256 * track .channels * 6) × (length (now codes) ≡ 256 * track .channels * 6) ⌝ }
+    requires { ⌜ (expsLegal (now sheet) (now exps) ≡ true) × (now bap ≡ bapsOf (now sheet) (now exps)) ⌝ }
+    ensures { λ r. ⌜ r ≡ writeAnswer (now (sheet .entry)) (now (exps .entry)) (now (codes .entry)) (length (now (out .entry))) ⌝ }
+    ensures { λ r. ⌜ now (out .exit) ≡ bodyLeft r (bodyBits (now (sheet .entry)) (now (exps .entry)) (now (codes .entry))) (now (out .entry)) ⌝ }
+{
+    let n = 256 * track.channels * 6;
+    let mut clean = frame_rows::no_codes();
+    frame_rows::clean_codes(sheet, track, strategies, codes, &mut clean[0..n]);
+    if !codes_legal(sheet, track, strategies, bap, &clean[0..n]) {
+        return frame::refused(BAD_CODE);
+    }
+    write_legal(sheet, track, strategies, exps, bap, &clean[0..n], out)
+}
+
+// Buffers of the right length: the exponents are tested next, and what a run's allocation is.
+fn write_sized(
+    sheet: &[u8],
+    track: Track,
+    strategies: [[u8; 6]; 6],
+    exps: &[u8],
+    codes: &[u16],
+    out: &mut [u8],
+) -> FrameAnswer
+    requires { ⌜ Under (now sheet) track strategies ⌝ }
+    requires { ⌜ (length (now exps) ≡ 256 * track .channels * 6) × (length (now codes) ≡ 256 * track .channels * 6) ⌝ }
+    ensures { λ r. ⌜ r ≡ writeAnswer (now (sheet .entry)) (now (exps .entry)) (now (codes .entry)) (length (now (out .entry))) ⌝ }
+    ensures { λ r. ⌜ now (out .exit) ≡ bodyLeft r (bodyBits (now (sheet .entry)) (now (exps .entry)) (now (codes .entry))) (now (out .entry)) ⌝ }
+{
+    if !exps_legal(sheet, track, strategies, exps) {
+        return frame::refused(BAD_EXPONENT);
+    }
+    let n = 256 * track.channels * 6;
+    let mut bap = frame_rows::no_bytes();
+    frame_rows::allocate_body(sheet, track, strategies, exps, &mut bap[0..n]);
+    write_shaped(sheet, track, strategies, exps, &bap[0..n], codes, out)
+}
+
+// An accepted sheet: the lengths are tested next.
+fn write_under(
+    sheet: &[u8],
+    track: Track,
+    strategies: [[u8; 6]; 6],
+    exps: &[u8],
+    codes: &[u16],
+    out: &mut [u8],
+) -> FrameAnswer
+    requires { ⌜ Under (now sheet) track strategies ⌝ }
+    ensures { λ r. ⌜ r ≡ writeAnswer (now (sheet .entry)) (now (exps .entry)) (now (codes .entry)) (length (now (out .entry))) ⌝ }
+    ensures { λ r. ⌜ now (out .exit) ≡ bodyLeft r (bodyBits (now (sheet .entry)) (now (exps .entry)) (now (codes .entry))) (now (out .entry)) ⌝ }
+{
+    let n = sheet::buffer_length(track.channels);
+    if exps.len() != n {
+        return frame::refused(WRONG_LENGTH);
+    }
+    if codes.len() != n {
+        return frame::refused(WRONG_LENGTH);
+    }
+    write_sized(sheet, track, strategies, exps, codes, out)
+}
+
+// A body from exponents and codes, from the first bit of the output on, closed with zero bits to the byte.
+pub fn write_body(sheet: &[u8], exps: &[u8], codes: &[u16], out: &mut [u8]) -> FrameAnswer
+    ensures { λ r. ⌜ r ≡ writeAnswer (now (sheet .entry)) (now (exps .entry)) (now (codes .entry)) (length (now (out .entry))) ⌝ }
+    ensures { λ r. ⌜ now (out .exit) ≡ bodyLeft r (bodyBits (now (sheet .entry)) (now (exps .entry)) (now (codes .entry))) (now (out .entry)) ⌝ }
+{
+    let number = sheet::check_sheet(sheet);
+    if number != ACCEPTED {
+        return frame::refused(number);
+    }
+    let track = frame::track_of(sheet);
+    let strategies = sheet::strategies_of(sheet);
+    write_under(sheet, track, strategies, exps, codes, out)
+}

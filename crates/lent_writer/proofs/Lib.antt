@@ -1,0 +1,3 @@
+pub mod Again
+pub mod Clauses
+pub mod Local

@@ -1,0 +1,9 @@
+// The masking curve of A/52 7.2.2.5 and 7.2.2.6: the hearing threshold, the knee and the delta segments.
+pub mod delta;
+pub mod threshold;
+
+pub use delta::Place;
+pub use delta::added_at;
+pub use delta::at_band;
+pub use delta::first_place;
+pub use threshold::masking_curve;
