@@ -1,36 +1,32 @@
 -- Laws of the allocation: its length, its range, what it depends on; which codes are legal; and each answer's cause.
-use Prim.Native.Nat.{ℕ, zero, suc, _≤_, _<_}
-use mathlib.Core.Bool.{Bool, true, false, not, cond, _&&_}
+use Prim.Native.Nat.{ℕ, _≤_, _<_}
+use mathlib.Core.Bool.{Bool, true, false, cond, _&&_}
 use mathlib.Core.List.{List}
-use mathlib.Core.Path.{_≡_, refl, sym, ap, _∙_}
-use native.Mathlib.Decide.{decLe, decLt}
+use mathlib.Core.Path.{_≡_, refl}
+use native.Mathlib.Decide.{decLt}
 use native.Mathlib.Omega.{arith}
-use lib.Dec.{leb, ltb, eqb}
+use lib.Dec.{leb, ltb}
 use lib.ListN.{length, getD, List·getD-eq-default}
-use borrow.Author.Tests.{leb-true, le-leb, le-ltb, eqb-true, eq-eqb, ne-eqb}
+use borrow.Author.Tests.{le-leb, le-ltb}
 use Rattle.bits.specs.Parts.{tab}
 use Rattle.bits.specs.PartsLaws.{length-tab, getD-tab, tab-cong}
-use Rattle.bits.specs.Refusal as refusal
 use Rattle.tables.specs.Bands.{masktab}
 use Rattle.tables.specs.Entry.{entry}
 use Rattle.tables.specs.Quantizer.{baptab}
 use Rattle.tables.specs.Rules.{baptab-most}
 use Rattle.sheet.specs.Common.{commonOf, channelsOf}
-use Rattle.sheet.specs.Legal.{LegalSheet, LegalCommon, LegalRecord}
-use Rattle.sheet.specs.Ranges.{allBelow, lfeEnd, legalEnd}
+use Rattle.sheet.specs.Legal.{LegalSheet}
+use Rattle.sheet.specs.Ranges.{lfeEnd}
 use Rattle.sheet.specs.Record.{recordOf}
-use Rattle.sheet.specs.Tests.{both, all-seven, all-below}
 use Rattle.sheet.specs.declared.common_part.Common.{Common}
 use Rattle.sheet.specs.declared.record.ChannelRecord.{ChannelRecord}
 use Rattle.excitation.specs.Psd.{psd}
 use Rattle.excitation.specs.BandPsd.{bndpsd}
 use Rattle.excitation.specs.BandPsdLaws.{bndpsd-same}
-use Rattle.excitation.specs.Excitation.{excite}
 use Rattle.excitation.specs.Held.{excite-same}
-use Rattle.masking.specs.Threshold.{maskingCurve}
-use Rattle.allocation.specs.Initialization.{leakOf, dbkneeOf, floorOf, snroffsetOf}
+use Rattle.allocation.specs.Initialization.{leakOf, floorOf, snroffsetOf}
 use Rattle.allocation.specs.Bap.{lowered, address, bapOf}
-use Rattle.allocation.specs.Allocation.{maskOf, allocated, LegalCodes, LegalBins, segmentInRange, commonCodes, channelCodes, rightLengths, exponentsFit, answerOf, leftIn}
+use Rattle.allocation.specs.Allocation.{maskOf, allocated, LegalCodes}
 
 -- ---- the allocation
 

@@ -1,11 +1,11 @@
 -- The allocation as the code has it, over the natural numbers: the floor and what the mask is lowered to are 2048 up, the offset is 960 up.
 -- specs/HeldLaws.antt joins these forms with those of A/52.
 use Prim.Native.Nat.{ℕ, suc, _+_, _-_, _*_, _/_, _%_, min}
-use mathlib.Core.Bool.{cond}
-use mathlib.Core.List.{List}
+use mathlib.Core.Bool.{Bool, cond}
+use mathlib.Core.List.{List, _++_}
 use lib.Bits.{bitAnd}
 use lib.Dec.{ltb}
-use lib.ListN.{getD}
+use lib.ListN.{getD, drop, replicate}
 use Rattle.bits.specs.Parts.{tab}
 use Rattle.tables.specs.Bands.{masktab}
 use Rattle.tables.specs.Entry.{entry, row}
@@ -18,6 +18,7 @@ use Rattle.sheet.specs.declared.record.ChannelRecord.{ChannelRecord}
 use Rattle.excitation.specs.Psd.{psd}
 use Rattle.excitation.specs.BandPsd.{bndpsd}
 use Rattle.excitation.specs.Held.{after}
+use Rattle.excitation.specs.declared.excitation.Leak.{Leak}
 use Rattle.masking.specs.Held.{heldCurve, heldDeltas}
 use Rattle.allocation.specs.Initialization.{leakOf, dbkneeOf}
 use Rattle.allocation.specs.declared.initialization.Parameters.{Parameters}
@@ -51,6 +52,34 @@ heldBap level exponent = entry baptab (heldAddress (psd exponent) level)
 -- what a band's mask is lowered to, from its excitation, its power, its threshold and its delta
 unfoldable pub heldLevel : Parameters → ℕ → ℕ → ℕ → ℕ → ℕ
 heldLevel p excite power threshold added = heldLowered (heldCurve excite power (p .dbknee) threshold + added - 512) (p .snroffset) (p .floor)
+
+-- ---- as the code walks
+
+-- the list l with f 0, f 1, .. f (n - 1) in front
+unfoldable pub front : (ℕ → ℕ) → ℕ → List ℕ → List ℕ
+front f n l = tab n f ++ drop n l
+
+-- the excitations of bands whose psds are a list
+unfoldable pub excitedBy : Leak → Bool → List ℕ → ℕ → ℕ
+excitedBy p lfe powers band = after p lfe (λ k. getD powers k 0) (suc band) .excite
+
+-- BAPTAB as a window: entry 111 + address, with 0 before address 0 and 15 behind address 63,
+-- so that an address that is held to 0 .. 63 is read without holding it
+unfoldable pub window : List ℕ
+window = replicate 111 0 ++ (baptab ++ replicate 97 15)
+
+-- where a bin with exponent 0 of a band stands in the window; one with exponent e stands 4 e before it
+unfoldable pub heldBase : Parameters → ℕ → ℕ → ℕ → ℕ → ℕ
+heldBase p excite power threshold added =
+    111 + ((5120 - p .floor) / 32 - bitAnd (heldCurve excite power (p .dbknee) threshold + added + 2496 - (p .snroffset + p .floor)) 0x1fe0 / 32)
+
+-- ---- the whole
+
+-- the bap of a bin by the arrays of its bands
+unfoldable pub bapBy : Parameters → List ℕ → List ℕ → List ℕ → List ℕ → List ℕ → ℕ → ℕ
+bapBy p powers excites added thresholds exp bin =
+    let band = entry masktab bin in
+    heldBap (heldLevel p (getD excites band 0) (getD powers band 0) (getD thresholds band 0) (getD added band 0)) (getD exp bin 0)
 
 -- the level of a band of a channel with bins 0 .. end - 1, from its parameters, its thresholds and its segments
 unfoldable pub levelAt : Parameters → List ℕ → List ℕ → List ℕ → List ℕ → ℕ → ℕ → List ℕ → ℕ → ℕ

@@ -1,11 +1,11 @@
 -- The held forms are A/52's: the floor, the offset, the lowered mask, the address, and the whole allocation.
-use Prim.Native.Nat.{ℕ, zero, suc, _+_, _-_, _*_, _/_, min, _≤_, _<_}
-use mathlib.Core.Bool.{Bool, true, false, cond, _&&_}
+use Prim.Native.Nat.{ℕ, suc, _+_, _-_, _/_, min, _≤_, _<_}
+use mathlib.Core.Bool.{Bool, false}
 use mathlib.Core.List.{List}
-use mathlib.Core.Path.{_≡_, refl, sym, ap, _∙_}
+use mathlib.Core.Path.{_≡_, sym, ap, _∙_}
 use native.Mathlib.Omega.{arith}
 use lib.Bits.{bitAnd}
-use lib.Dec.{T, leb, ltb, eqb, eqb→eq}
+use lib.Dec.{T, eqb, eqb→eq}
 use lib.IntN.{ℤ, pos, negsuc, negℤ, _+ℤ_, _-ℤ_, +ℤ-assoc}
 use lib.ListN.{getD}
 use lib.Signed.{shrZ}
@@ -17,7 +17,6 @@ use Rattle.tables.specs.Computed.{allBelow, at-index}
 use Rattle.tables.specs.Entry.{entry, row}
 use Rattle.tables.specs.Masking.{hth}
 use Rattle.tables.specs.Parameters.{floortab, signed16}
-use Rattle.tables.specs.Quantizer.{baptab}
 use Rattle.tables.specs.Rules.{masktab-most, dbpbtab-most, hth-least}
 use Rattle.sheet.specs.Ranges.{lfeEnd}
 use Rattle.sheet.specs.declared.common_part.Common.{Common}

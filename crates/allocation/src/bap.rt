@@ -1,55 +1,145 @@
-// The bit allocation pointers of a band's bins (A/52 7.2.2.7).
+// The bit allocation pointers of the bins (A/52 7.2.2.7), from the psds, excitations, deltas and thresholds of the bands.
 ghost use mathlib.Core.Path.{_≡_};
-ghost use Prim.Native.Nat.{ℕ, _<_, _≤_};
-ghost use lib.ListN.{getD, length};
+ghost use Prim.Native.Nat.{ℕ, _-_, _*_, _<_, _≤_};
+ghost use lib.ListN.{getD, length, take};
 ghost use Rattle.bits.specs.Parts.{tab};
-ghost use Rattle.tables.specs.Quantizer as quantizer;
-ghost use Rattle.allocation.specs.Held.{heldAddress, heldBap, heldLevel, heldLowered};
+ghost use Rattle.tables.specs.Bands as bands;
+ghost use Rattle.allocation.specs.Held.{bapBy, heldBase};
+ghost use Rattle.allocation.specs.Held as definition;
 use crate::initialization::Parameters;
-use excitation::least;
+use crate::powers::SINGLES;
+use crate::powers::band_end;
 use excitation::less;
-use excitation::psd;
 use masking::masking_curve;
 
-// The mask less the offset and the floor, held to 0 before 0x1fe0 is applied; then the floor again. 2048 up.
-fn lowered(mask: u32, snroffset: u32, floor: u32) -> u32
-    requires { ⌜ (mask ≤ 131071) × (snroffset ≤ 65535) × (floor ≤ 65535) ⌝ }
-    ensures { λ r. ⌜ r ≡ heldLowered mask snroffset floor ⌝ }
+// Where a bin with exponent 0 of a band stands in the window. The mask less the offset and the floor is held to 0 before 0x1fe0 is applied.
+fn band_base(p: Parameters, excite: u32, power: u32, threshold: u16, added: u16) -> usize
+    requires { ⌜ (p .dbknee ≤ 8191) × (p .snroffset ≤ 65535) × (p .floor ≤ 5120) ⌝ }
+    requires { ⌜ excite ≤ 8191 ⌝ }
+    ensures { λ r. ⌜ (r ≡ heldBase p excite power threshold added) × (111 ≤ r) × (r ≤ 271) ⌝ }
 {
-    (less(mask + 3008, snroffset + floor) & 0x1fe0) + floor
+    // the delta is 512 up, the offset and the floor are 960 and 2048 up
+    let mask = masking_curve(excite, power, p.dbknee, threshold) + (added as u32) + 2496;
+    let lowered = (less(mask, p.snroffset + p.floor) & 0x1fe0) / 32;
+    (111 + less((5120 - p.floor) / 32, lowered)) as usize
 }
 
-// The level of a band: its mask (the delta is 512 up), lowered.
-pub fn band_level(p: Parameters, excite: u32, power: u32, threshold: u16, added: u32) -> u32
-    requires { ⌜ (p .dbknee ≤ 8191) × (p .snroffset ≤ 65535) × (p .floor ≤ 65535) ⌝ }
-    requires { ⌜ (excite ≤ 8191) × (added ≤ 32768) ⌝ }
-    ensures { λ r. ⌜ r ≡ heldLevel p excite power threshold added ⌝ }
+fn pointer(window: &[u8; 272], base: usize, exponent: u8) -> u8
+    requires { ⌜ (length (now window) ≡ 272) × (111 ≤ base) × (base ≤ 271) × (exponent ≤ 24) ⌝ }
+    ensures { λ r. ⌜ r ≡ getD (now (window .entry)) (base - 4 * exponent) 0 ⌝ }
 {
-    let mask = less(
-        masking_curve(excite, power, p.dbknee, threshold) + added,
-        512,
-    );
-    lowered(mask, p.snroffset, p.floor)
-}
-
-fn address(power: u32, level: u32) -> usize
-    requires { ⌜ power ≤ 3072 ⌝ }
-    ensures { λ r. ⌜ (r ≡ heldAddress power level) × (r < 64) ⌝ }
-{
-    least(less(power + 2048, level) / 32, 63) as usize
+    window[base - 4 * (exponent as usize)]
 }
 
 // The pointers of a band's bins, by the part of the exponents that is theirs.
-pub fn fill_band(exp: &[u8], level: u32, baptab: &[u8; 64], bap: &mut [u8])
-    requires { ⌜ (length (now exp) ≡ length (now bap)) × (now baptab ≡ quantizer.baptab) ⌝ }
+fn fill_band(exp: &[u8], base: usize, window: &[u8; 272], bap: &mut [u8])
+    requires { ⌜ (length (now exp) ≡ length (now bap)) × (length (now window) ≡ 272) × (111 ≤ base) × (base ≤ 271) ⌝ }
     requires { ⌜ ((i : ℕ) → i < length (now exp) → getD (now exp) i 0 ≤ 24) ⌝ }
-    ensures { λ _. ⌜ now (bap .exit) ≡ tab (length (now (bap .entry))) (λ i. heldBap level (getD (now (exp .entry)) i 0)) ⌝ }
+    ensures { λ _. ⌜ now (bap .exit) ≡ tab (length (now (bap .entry))) (λ i. getD (now (window .entry)) (base - 4 * getD (now (exp .entry)) i 0) 0) ⌝ }
 {
     let mut i = 0;
     while i < bap.len() {
-        bap[i] = baptab[address(psd(exp[i]), level)];
+        bap[i] = pointer(window, base, exp[i]);
         i += 1;
     }
+}
+
+// The bins that are bands of their own.
+fn fill_singles(
+    exp: &[u8],
+    bins: usize,
+    p: Parameters,
+    powers: &[u32; 51],
+    excites: &[u32; 50],
+    added: &[u16; 50],
+    hth: &[u16; 50],
+    window: &[u8; 272],
+    bap: &mut [u8],
+)
+    requires { ⌜ (bins ≤ 28) × (bins ≤ length (now exp)) × (bins ≤ length (now bap)) ⌝ }
+    requires { ⌜ ((bin : ℕ) → bin < bins → getD (now exp) bin 0 ≤ 24) ⌝ }
+    requires { ⌜ (p .dbknee ≤ 8191) × (p .snroffset ≤ 65535) × (p .floor ≤ 5120) ⌝ }
+    requires { ⌜ (length (now powers) ≡ 51) × (length (now excites) ≡ 50) × (length (now added) ≡ 50) × (length (now hth) ≡ 50) × (now window ≡ definition.window) ⌝ }
+    requires { ⌜ ((k : ℕ) → getD (now excites) k 0 ≤ 8191) × ((k : ℕ) → k < 50 → 512 ≤ getD (now hth) k 0) ⌝ }
+    ensures { λ _. ⌜ take bins (now (bap .exit)) ≡ tab bins (bapBy p (now (powers .entry)) (now (excites .entry)) (now (added .entry)) (now (hth .entry)) (now (exp .entry))) ⌝ }
+{
+    let mut bin = 0;
+    while bin < bins {
+        let base = band_base(p, excites[bin], powers[bin], hth[bin], added[bin]);
+        bap[bin] = pointer(window, base, exp[bin]);
+        bin += 1;
+    }
+}
+
+// The bins of the bands behind them, up to end.
+fn fill_joined(
+    exp: &[u8],
+    end: usize,
+    p: Parameters,
+    powers: &[u32; 51],
+    excites: &[u32; 50],
+    added: &[u16; 50],
+    hth: &[u16; 50],
+    bndsz: &[u8; 50],
+    window: &[u8; 272],
+    bap: &mut [u8],
+)
+    requires { ⌜ (28 ≤ end) × (end ≤ 253) × (end ≤ length (now exp)) × (end ≤ length (now bap)) ⌝ }
+    requires { ⌜ ((bin : ℕ) → bin < end → getD (now exp) bin 0 ≤ 24) ⌝ }
+    requires { ⌜ (p .dbknee ≤ 8191) × (p .snroffset ≤ 65535) × (p .floor ≤ 5120) ⌝ }
+    requires { ⌜ (length (now powers) ≡ 51) × (length (now excites) ≡ 50) × (length (now added) ≡ 50) × (length (now hth) ≡ 50) × (now window ≡ definition.window) × (now bndsz ≡ bands.bndsz) ⌝ }
+    requires { ⌜ ((k : ℕ) → getD (now excites) k 0 ≤ 8191) × ((k : ℕ) → k < 50 → 512 ≤ getD (now hth) k 0) ⌝ }
+    requires { ⌜ take 28 (now bap) ≡ tab 28 (bapBy p (now powers) (now excites) (now added) (now hth) (now exp)) ⌝ }
+    ensures { λ _. ⌜ take end (now (bap .exit)) ≡ tab end (bapBy p (now (powers .entry)) (now (excites .entry)) (now (added .entry)) (now (hth .entry)) (now (exp .entry))) ⌝ }
+{
+    let mut band = SINGLES;
+    let mut bin = SINGLES;
+    while bin < end {
+        let next = band_end(bin, bndsz[band], end);
+        let base = band_base(p, excites[band], powers[band], hth[band], added[band]);
+        fill_band(&exp[bin..next], base, window, &mut bap[bin..next]);
+        bin = next;
+        band += 1;
+    }
+}
+
+// All bins below end.
+pub fn fill_bins(
+    exp: &[u8],
+    end: usize,
+    p: Parameters,
+    powers: &[u32; 51],
+    excites: &[u32; 50],
+    added: &[u16; 50],
+    hth: &[u16; 50],
+    window: &[u8; 272],
+    bap: &mut [u8],
+)
+    requires { ⌜ (end ≤ 253) × (end ≤ length (now exp)) × (end ≤ length (now bap)) ⌝ }
+    requires { ⌜ ((bin : ℕ) → bin < end → getD (now exp) bin 0 ≤ 24) ⌝ }
+    requires { ⌜ (p .dbknee ≤ 8191) × (p .snroffset ≤ 65535) × (p .floor ≤ 5120) ⌝ }
+    requires { ⌜ (length (now powers) ≡ 51) × (length (now excites) ≡ 50) × (length (now added) ≡ 50) × (length (now hth) ≡ 50) × (now window ≡ definition.window) ⌝ }
+    requires { ⌜ ((k : ℕ) → getD (now excites) k 0 ≤ 8191) × ((k : ℕ) → k < 50 → 512 ≤ getD (now hth) k 0) ⌝ }
+    ensures { λ _. ⌜ take end (now (bap .exit)) ≡ tab end (bapBy p (now (powers .entry)) (now (excites .entry)) (now (added .entry)) (now (hth .entry)) (now (exp .entry))) ⌝ }
+{
+    if end < SINGLES {
+        fill_singles(exp, end, p, powers, excites, added, hth, window, bap);
+        return;
+    }
+    fill_singles(exp, SINGLES, p, powers, excites, added, hth, window, bap);
+    let bndsz = tables::bndsz_table();
+    fill_joined(
+        exp,
+        end,
+        p,
+        powers,
+        excites,
+        added,
+        hth,
+        &bndsz,
+        window,
+        bap,
+    );
 }
 
 // Bins from end on get no bits.

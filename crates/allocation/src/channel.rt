@@ -2,12 +2,16 @@
 ghost use mathlib.Core.Path.{_≡_};
 ghost use lib.ListN.{length};
 ghost use Rattle.allocation.specs.Allocation.{LegalBins, LegalCodes, allocated, answerOf, leftIn};
-use crate::bands::fill_bands;
 use crate::bap::clear;
+use crate::bap::fill_bins;
+use crate::deltas::band_deltas;
+use crate::excite::excite_bands;
 use crate::initialization::initialize;
+use crate::powers::band_powers;
 use crate::ranges::exponents_fit;
 use crate::ranges::in_range;
 use crate::ranges::right_lengths;
+use crate::window::window;
 use bits::refusal::ACCEPTED;
 use bits::refusal::BAD_EXPONENT;
 use bits::refusal::OUT_OF_RANGE;
@@ -21,29 +25,19 @@ pub fn allocate(exp: &[u8], end: usize, common: Common, channel: ChannelRecord, 
     requires { ⌜ LegalBins (now exp) end (length (now bap)) ⌝ }
     ensures { λ _. ⌜ now (bap .exit) ≡ allocated common channel end (now (exp .entry)) (length (now (bap .entry))) ⌝ }
 {
-    let p = initialize(common, channel);
+    let window = window();
     let hth = tables::hth_row(common.fscod);
-    let powers = excitation::band_psds(exp, end);
-    let bndsz = tables::bndsz_table();
-    let baptab = tables::baptab_table();
+    let p = initialize(common, channel);
+    let mut powers = [0u32; 51];
+    let bands = band_powers(exp, end, &mut powers);
+    let mut excites = [0u32; 50];
+    excite_bands(p.leak, end == 7, &powers, bands, &mut excites);
     let offst = channel.offst;
     let len = channel.len;
     let ba = channel.ba;
-    let nseg = channel.nseg as usize;
-    fill_bands(
-        exp,
-        end,
-        p,
-        &hth,
-        &powers,
-        &bndsz,
-        &baptab,
-        &offst,
-        &len,
-        &ba,
-        nseg,
-        bap,
-    );
+    let mut added = [512u16; 50];
+    band_deltas(&offst, &len, &ba, channel.nseg as usize, bands, &mut added);
+    fill_bins(exp, end, p, &powers, &excites, &added, &hth, &window, bap);
     clear(&mut bap[end..]);
 }
 

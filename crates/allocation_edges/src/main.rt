@@ -7,6 +7,7 @@ pub mod channels;
 pub mod codes;
 pub mod exponents;
 pub mod listed;
+pub mod logadd;
 pub mod refusals;
 pub mod segments;
 pub mod show;
@@ -24,4 +25,5 @@ fn main() {
     refusals::ranges();
     listed::differences();
     listed::mixtures();
+    logadd::all();
 }

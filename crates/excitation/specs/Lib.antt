@@ -3,7 +3,6 @@ pub mod Signed
 pub mod SignedLaws
 pub mod BandPsd
 pub mod BandPsdLaws
-pub mod AllBands
 pub mod Excitation
 pub mod Held
 pub mod Lent

@@ -1,10 +1,9 @@
 // The psd of a bin and of a band (A/52 7.2.2.2 and 7.2.2.3). The tables are lent: a caller that walks the bands lays them out once.
 ghost use mathlib.Core.Path.{_≡_};
-ghost use Prim.Native.Nat.{ℕ, _+_, _≤_, _<_, min};
+ghost use Prim.Native.Nat.{ℕ, _+_, _≤_, _<_};
 ghost use lib.ListN.{getD, length};
-ghost use Rattle.tables.specs.Bands as bands;
 ghost use Rattle.tables.specs.Masking as masking;
-ghost use Rattle.excitation.specs.BandPsd.{bndpsd, joinedPsd};
+ghost use Rattle.excitation.specs.BandPsd.{joinedPsd};
 ghost use Rattle.excitation.specs.BandPsd as definition;
 ghost use Rattle.excitation.specs.Psd as bin;
 use crate::number::least;
@@ -51,42 +50,4 @@ pub fn joined_psd(exp: &[u8], j: usize, n: usize, latab: &[u8; 256]) -> u32
     ensures { λ r. ⌜ r ≡ joinedPsd (now (exp .entry)) j n ⌝ }
 {
     joined_on(psd(exp[j]), exp, j, 1, n, latab)
-}
-
-// The number of a band's bins that lie below end, where it starts below end.
-pub fn bins_below(size: u8, left: usize) -> usize
-    ensures { λ r. ⌜ r ≡ min size left ⌝ }
-{
-    let size = size as usize;
-    if size < left { size } else { left }
-}
-
-// Bands 0 to 27 are bins 0 to 27; a band that starts at end or past it, or past the last band, has no bin.
-pub fn band_psd(
-    exp: &[u8],
-    end: usize,
-    band: usize,
-    bndtab: &[u8; 50],
-    bndsz: &[u8; 50],
-    latab: &[u8; 256],
-) -> u32
-    requires { ⌜ end ≤ length (now exp) ⌝ }
-    requires { ⌜ ((i : ℕ) → i < end → getD (now exp) i 0 ≤ 24) ⌝ }
-    requires { ⌜ (now bndtab ≡ bands.bndtab) × (now bndsz ≡ bands.bndsz) × (now latab ≡ masking.latab) ⌝ }
-    ensures { λ r. ⌜ r ≡ bndpsd (now (exp .entry)) 0 end band ⌝ }
-{
-    if band < 28 {
-        if band < end {
-            return psd(exp[band]);
-        }
-        return 0;
-    }
-    if 50 <= band {
-        return 0;
-    }
-    let j = bndtab[band] as usize;
-    if end <= j {
-        return 0;
-    }
-    joined_psd(exp, j, bins_below(bndsz[band], end - j), latab)
 }

@@ -23,6 +23,9 @@ use Rattle.frame_runs.specs.FiniteLaws.{finite-below}
 use Rattle.frame_runs.specs.FramedLaws.{below-row}
 use Rattle.frame_runs.specs.Runs.{belowEnd}
 use Rattle.frame_runs.specs.RunsLaws.{whole-below}
+use Rattle.mantissas.specs.Ranges.{row}
+use Rattle.quantiser.specs.Code.{codeOf}
+use Rattle.quantiser.specs.CodeLaws.{code-in-range}
 use Rattle.sheet.specs.Sheet.{checkOf}
 use Rattle.frame_encoder.specs.Codes.{codesFor, codePart}
 
@@ -41,6 +44,12 @@ pub record Allocated (sheet exps bap : List ℕ) : Type 0 where
   pub whole : length exps ≡ 256 * channels sheet * 6
   pub legal : expsLegal sheet exps ≡ true
   pub is : bap ≡ bapsOf sheet exps
+
+-- ---- a code
+
+-- it fits 16 bits
+pub code-fits : (x : Float) (k b : ℕ) → b ≤ 15 → codeOf x k b < 65536
+code-fits x k b h = omega (arith, code-in-range x k b h, row b (omega (arith, h)) .levels-most)
 
 -- ---- a channel's part
 

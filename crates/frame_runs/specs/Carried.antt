@@ -21,7 +21,7 @@ nextRow sheet coeffs b old = joined (channels sheet) (λ c. nextPart sheet coeff
 unfoldable pub rowAt : List ℕ → List Float → ℕ → List ℕ
 rowAt sheet coeffs b = joined (channels sheet) (partAt sheet coeffs b)
 
--- the row that is carried when block b begins; block 0 leaves nothing of the first
+-- the row that is carried when block b begins; block 0 leaves nothing of what was there before it
 unfoldable pub rowBefore : List ℕ → List Float → ℕ → List ℕ
 rowBefore sheet coeffs zero = take (256 * channels sheet) noRow
 rowBefore sheet coeffs (suc b) = rowAt sheet coeffs b

@@ -8,12 +8,12 @@ use native.Mathlib.Numerals.{add-one}
 use native.Mathlib.Decide.{decLt}
 use native.Mathlib.Omega.{arith}
 use lib.Dec.{leb, ltb}
-use lib.IntN.{ℤ, pos, negsuc, negℤ, _+ℤ_, _-ℤ_, _*ℤ_, +ℤ-idl, +ℤ-idr}
+use lib.IntN.{ℤ, pos, _+ℤ_, _-ℤ_, +ℤ-idl, +ℤ-idr}
 use lib.ListN.{getD}
 use borrow.Author.Tests.{ltb-true, ltb-false, lt-ltb, le-ltb, lt-leb, le-leb}
 use Rattle.tables.specs.Entry.{entry, row}
 use Rattle.tables.specs.Masking.{hth}
-use Rattle.tables.specs.Rules.{hth-least, hth-most}
+use Rattle.tables.specs.Rules.{hth-least}
 use Rattle.excitation.specs.Signed.{maxZ, hold}
 use Rattle.excitation.specs.SignedLaws.{max-lift, pos-sub}
 use Rattle.masking.specs.Threshold.{raised, maskingCurve}
@@ -43,10 +43,6 @@ pub curve-least : (excite bndpsd dbknee threshold : ℕ) → threshold ≤ heldC
 unfolding heldCurve
 curve-least excite bndpsd dbknee threshold = omega arith
 
-pub curve-most : (excite bndpsd dbknee fscod band : ℕ) → heldCurve excite bndpsd dbknee (entry (row hth fscod) band) ≤ max (excite + dbknee / 4) 2112
-unfolding heldCurve
-curve-most excite bndpsd dbknee fscod band = omega (arith, hth-most fscod band)
-
 -- ---- one delta
 
 pub delta-held : (m ba : ℕ) → 512 ≤ m → pos m +ℤ delta ba ≡ pos (m + heldDelta ba - 512)
@@ -58,14 +54,6 @@ delta-held m (suc (suc (suc zero))) h = pos-sub m 128 (omega arith) ∙ ap pos (
 delta-held m (suc (suc (suc (suc n)))) h =
     let e : pos (suc (suc (suc (suc n)))) -ℤ pos 3 ≡ pos (suc n) = pos-sub (suc (suc (suc (suc n)))) 3 (omega arith) ∙ ap pos (omega arith) in
     rw (le-leb 4 (suc (suc (suc (suc n)))) (omega arith), le-ltb (suc (suc (suc (suc n)))) 4 (omega arith), e) (ap pos (omega arith))
-
-pub heldDelta-most : (ba : ℕ) → heldDelta ba ≤ 128 * ba + 128
-unfolding heldDelta
-heldDelta-most ba = go (ltb ba 4)
-  where
-    go : (t : Bool) → cond t (128 * ba) (128 * ba + 128) ≤ 128 * ba + 128
-    go true = omega arith
-    go false = omega arith
 
 -- ---- all segments
 

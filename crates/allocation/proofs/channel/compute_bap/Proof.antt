@@ -1,5 +1,5 @@
 -- Each way out is a law of AnswerLaws.antt; a refused call leaves the slice, an accepted one fills it.
-use mathlib.Core.Path.{_≡_, sym, _∙_}
+use mathlib.Core.Path.{sym, _∙_}
 use native.Mathlib.Omega.{arith}
 use borrow.Author.Needs.{needs}
 use borrow.Author.Tests.{not-true, not-false}

@@ -1,5 +1,4 @@
 -- Each parameter is the entry of its code.
-use native.Mathlib.Omega.{arith}
 use borrow.Author.Needs.{needs}
 use Rattle.allocation.specs.Initialization.{leakOf, dbkneeOf}
 use Rattle.allocation.specs.Held.{parametersOf}

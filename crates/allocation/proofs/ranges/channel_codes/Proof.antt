@@ -1,5 +1,4 @@
 -- More than 8 segments are too many; else the tests as they are.
-use native.Mathlib.Omega.{arith}
 use borrow.Author.Needs.{needs}
 use borrow.Author.Tests.{le-leb, lt-leb}
 use Rattle.allocation.specs.Allocation.{channelCodes}

@@ -24,16 +24,16 @@ loop-holds : tie.Need-loop-holds Inv-loop μ-loop
 loop-holds c = (omega arith, refl, refl)
 
 strategy-at-requires : tie.Need-strategy-at-requires Inv-loop μ-loop
-strategy-at-requires c κs = (c .loop-test .taken, omega (arith, held-most (c .before .before .before .before .before .pre .0), held-channels (c .before .before .before .before .before .pre .0)))
+strategy-at-requires c κs = (omega (arith, c .loop-test .taken), omega (arith, held-most (c .before .before .before .before .before .pre .0), held-channels (c .before .before .before .before .before .pre .0)))
 
 same-length : tie.Need-same-length Inv-loop μ-loop
 same-length c = c .before .before .before .loop .inv .1
 
 returns : tie.Need-returns Inv-loop μ-loop
-returns c = run-stops _ _ _ _ _ (λ z. c .if1 .taken (c .before .strategy-at .ensures ∙ held-strategy (c .before .before .before .before .before .before .before .pre .0) _ _ ∙ z)) (c .before .before .loop-test .taken) ∙ c .before .before .before .loop .inv .2
+returns c = run-stops _ _ _ _ _ (λ z. c .if1 .taken (c .before .strategy-at .ensures ∙ held-strategy (c .before .before .before .before .before .before .before .pre .0) _ _ ∙ z)) (omega (arith, c .before .before .loop-test .taken)) ∙ c .before .before .before .loop .inv .2
 
 part-start-requires : tie.Need-part-start-requires Inv-loop μ-loop
-part-start-requires c κs = (held-most (c .before .before .before .before .before .before .before .pre .0), c .before .before .loop-test .taken, rw (held-channels (c .before .before .before .before .before .before .before .pre .0)) (c .before .before .before .before .before .before .before .pre .1 .1 .0))
+part-start-requires c κs = (held-most (c .before .before .before .before .before .before .before .pre .0), omega (arith, c .before .before .loop-test .taken), rw (held-channels (c .before .before .before .before .before .before .before .pre .0)) (c .before .before .before .before .before .before .before .pre .1 .1 .0))
 
 element-copy-out-e : tie.Need-element-copy-out-e Inv-loop μ-loop
 element-copy-out-e c = omega (arith, held-most (c .before .before .before .before .before .before .before .before .pre .0), held-channels (c .before .before .before .before .before .before .before .before .pre .0))
@@ -51,8 +51,8 @@ lower-part-requires : tie.Need-lower-part-requires Inv-loop μ-loop
 lower-part-requires c κs =
     let u = c .before .before .before .before .before .before .before .before .before .before .before .pre .0 in
     let lent = below-lent u _ _ _ (c .before .before .before .part-start .ensures) (c .before .before .before .before .before .before .before .before .before .before .before .pre .1 .1 .0) (c .before .before .before .before .before .before .before .before .before .before .before .args .coeffs .now) in
-    let long = ap length lent ∙ whole-below (c .before .before .before .before .before .before .before .before .before .before .before .args .sheet .now) (c .before .before .before .before .before .before .before .loop .b) (c .before .before .before .before .before .before .before .before .before .before .before .args .c) (c .before .before .before .before .before .before .before .before .before .before .before .args .coeffs .now) (u .accepted) (c .before .before .before .before .before .before .loop-test .taken) (c .before .before .before .before .before .before .before .before .before .before .before .pre .1 .1 .0) (c .before .before .before .before .before .before .before .before .before .before .before .pre .1 .0 .whole) in
-    (rw lent (finite-below _ _ _ _ (c .before .before .before .before .before .before .before .before .before .before .before .pre .1 .0 .finite) (c .before .before .before .before .before .before .loop-test .taken) (c .before .before .before .before .before .before .before .before .before .before .before .pre .1 .1 .0)), c .before .before .before .before .before .before .before .loop .inv .1 ∙ c .before .before .before .before .before .before .before .before .before .before .before .pre .1 .1 .2 ∙ sym long)
+    let long = ap length lent ∙ whole-below (c .before .before .before .before .before .before .before .before .before .before .before .args .sheet .now) (c .before .before .before .before .before .before .before .loop .b) (c .before .before .before .before .before .before .before .before .before .before .before .args .c) (c .before .before .before .before .before .before .before .before .before .before .before .args .coeffs .now) (u .accepted) (omega (arith, c .before .before .before .before .before .before .loop-test .taken)) (c .before .before .before .before .before .before .before .before .before .before .before .pre .1 .1 .0) (c .before .before .before .before .before .before .before .before .before .before .before .pre .1 .0 .whole) in
+    (rw lent (finite-below _ _ _ _ (c .before .before .before .before .before .before .before .before .before .before .before .pre .1 .0 .finite) (omega (arith, c .before .before .before .before .before .before .loop-test .taken)) (c .before .before .before .before .before .before .before .before .before .before .before .pre .1 .1 .0)), c .before .before .before .before .before .before .before .loop .inv .1 ∙ c .before .before .before .before .before .before .before .before .before .before .before .pre .1 .1 .2 ∙ sym long)
 
 loop-again : tie.Need-loop-again Inv-loop μ-loop
 loop-again c =
@@ -63,7 +63,7 @@ loop-again c =
       omega arith,
       c .before .before .lower-part .kept .1 .0 ∙ c .before .before .before .before .before .before .before .before .before .before .loop .inv .1,
       ap (λ (l : List ℕ). leastFrom (c .before .before .before .before .before .before .before .before .before .before .before .before .before .before .args .sheet .now) (c .before .before .before .before .before .before .before .before .before .before .before .before .before .before .args .coeffs .now) (c .before .before .before .before .before .before .before .before .before .before .before .before .before .before .args .c) (6 - (c .before .before .before .before .before .before .before .before .before .before .loop .b + 1)) (c .before .before .before .before .before .before .before .before .before .before .loop .b + 1) l) lowered
-          ∙ sym (run-on (c .before .before .before .before .before .before .before .before .before .before .before .before .before .before .args .sheet .now) (c .before .before .before .before .before .before .before .before .before .before .before .before .before .before .args .coeffs .now) (c .before .before .before .before .before .before .before .before .before .before .before .before .before .before .args .c) (c .before .before .before .before .before .before .before .before .before .before .loop .b) (c .before .before .before .before .before .before .before .before .before .before .loop .part) reuse (c .before .before .before .before .before .before .before .before .before .loop-test .taken)) ∙ c .before .before .before .before .before .before .before .before .before .before .loop .inv .2,
+          ∙ sym (run-on (c .before .before .before .before .before .before .before .before .before .before .before .before .before .before .args .sheet .now) (c .before .before .before .before .before .before .before .before .before .before .before .before .before .before .args .coeffs .now) (c .before .before .before .before .before .before .before .before .before .before .before .before .before .before .args .c) (c .before .before .before .before .before .before .before .before .before .before .loop .b) (c .before .before .before .before .before .before .before .before .before .before .loop .part) reuse (omega (arith, c .before .before .before .before .before .before .before .before .before .loop-test .taken))) ∙ c .before .before .before .before .before .before .before .before .before .before .loop .inv .2,
     )
 
 same-length-2 : tie.Need-same-length-2 Inv-loop μ-loop

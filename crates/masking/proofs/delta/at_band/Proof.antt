@@ -1,7 +1,6 @@
 -- The place stands at the band all along; each turn goes one segment on, and past the last one the stop is past every band.
 use Prim.Native.Nat.{_+_, _-_}
 use native.Mathlib.Omega.{arith}
-use borrow.Author.Needs.{needs}
 use Rattle.masking.specs.Held.{Stands}
 use Rattle.masking.specs.HeldLaws.{following-stands, following-less}
 use Rattle.masking.proofs.delta.at_band.Statement.{statement}

@@ -1,8 +1,8 @@
 -- A segment that is there, and none.
-use mathlib.Core.Path.{refl, sym}
+use mathlib.Core.Path.{sym}
 use native.Mathlib.Omega.{arith}
 use borrow.Author.Needs.{needs}
-use Rattle.masking.specs.Held.{placeOf, following}
+use Rattle.masking.specs.Held.{placeOf}
 use Rattle.masking.specs.HeldLaws.{following-in, following-out}
 use Rattle.masking.proofs.delta.following.Statement.{statement}
 use Rattle.masking.proofs.delta.following.Tie as tie

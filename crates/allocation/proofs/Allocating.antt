@@ -1,0 +1,198 @@
+-- From the arrays of the bands to the allocation.
+use Prim.Native.Nat.{ℕ, zero, suc, _+_, _-_, _%_, _≤_, _<_}
+use mathlib.Core.Bool.{Bool, true, false, _&&_, _||_}
+use mathlib.Core.List.{List}
+use mathlib.Core.Path.{_≡_, refl, sym, ap, _∙_}
+use native.Mathlib.Decide.{decLt}
+use native.Mathlib.Omega.{arith}
+use lib.Dec.{T, leb, eqb, leb→le}
+use lib.ListN.{length, take, drop, getD, replicate, length-take, length-drop, length-replicate, getD-replicate, List·getD-eq-default}
+use lib.Seq.{take-length}
+use borrow.Author.Tests.{lt-ltb, le-ltb, eqb-true, leb-true}
+use Rattle.bits.specs.Parts.{tab, placed}
+use Rattle.bits.specs.PartsLaws.{length-tab, getD-tab, tab-cong}
+use Rattle.tables.specs.Bands.{bndtab, masktab}
+use Rattle.tables.specs.Computed.{allBelow, at-index, never-falls}
+use Rattle.tables.specs.Entry.{entry, row}
+use Rattle.tables.specs.Masking.{hth}
+use Rattle.tables.specs.Parameters.{floortab}
+use Rattle.tables.specs.Rules.{masktab-holds-bin, masktab-most, dbpbtab-most, hth-least}
+use Rattle.sheet.specs.Ranges.{lfeEnd, fullEnd, legalEnd}
+use Rattle.sheet.specs.Tests.{both}
+use Rattle.sheet.specs.declared.common_part.Common.{Common}
+use Rattle.sheet.specs.declared.record.ChannelRecord.{ChannelRecord}
+use Rattle.excitation.specs.BandPsd.{bndpsd}
+use Rattle.excitation.specs.BandPsdLaws.{bndpsd-most, bndtab-one}
+use Rattle.excitation.specs.Held.{after, after-le, after-same}
+use Rattle.excitation.specs.declared.excitation.Leak.{Leak}
+use Rattle.excitation.specs.declared.excitation.Leaks.{Leaks}
+use Rattle.masking.specs.Held.{heldDeltas}
+use Rattle.allocation.specs.Initialization.{dbkneeOf}
+use Rattle.allocation.specs.Allocation.{allocated, LegalCodes}
+use Rattle.allocation.specs.Walk.{Bands}
+use Rattle.allocation.specs.Held.{heldFloor, heldOffset, parametersOf, front, excitedBy, levelAt, bapBy, bapAt, heldBelow, heldBin}
+use Rattle.allocation.specs.HeldLaws.{allocated-held}
+use Rattle.allocation.specs.declared.initialization.Parameters.{Parameters}
+use Rattle.allocation.proofs.Front.{length-front, getD-front, getD-behind}
+use Rattle.allocation.proofs.Joining.{bndtab-steps}
+use Rattle.allocation.proofs.Filling.{tab-part}
+
+-- ---- the parameters
+
+floor-most-all : T (allBelow 8 (λ (c : ℕ). leb (heldFloor (entry floortab c)) 5120))
+unfolding heldFloor entry floortab
+floor-most-all = tt
+
+pub parameters-small : (common : Common) (channel : ChannelRecord) (p : Parameters) → LegalCodes common channel → p ≡ parametersOf common channel
+    → (p .dbknee ≤ 8191) × (p .snroffset ≤ 65535) × (p .floor ≤ 5120)
+unfolding parametersOf dbkneeOf heldOffset
+parameters-small common channel p l e =
+    let floor : heldFloor (entry floortab (common .floorcod)) ≤ 5120 = leb→le _ _ (at-index 8 (λ (c : ℕ). leb (heldFloor (entry floortab c)) 5120) floor-most-all (common .floorcod) (omega (arith, l .floorcod))) in
+    rw e (omega (arith, dbpbtab-most (common .dbpbcod)), omega (arith, l .csnroffst, l .fsnroffst), floor)
+
+-- ---- how many bands
+
+-- the LFE has 7 bands, another channel more than 22
+pub legal-bands : (end n : ℕ) → legalEnd end ≡ true → Bands end n → n < 22 → n ≡ 7
+legal-bands end n legal b h = go (lfeEnd end) refl legal
+  where
+    start : entry bndtab n ≡ n
+    start = bndtab-one n (omega arith)
+
+    go : (t : Bool) → lfeEnd end ≡ t → (t || fullEnd end) ≡ true → n ≡ 7
+    go true e k = lfe (eqb-true end 7 e) (decLt 7 n)
+      where
+        lfe : end ≡ 7 → Dec (7 < n) → n ≡ 7
+        lfe q (yes u) = absurd (omega (arith, b .each 7 u, bndtab-one 7 (omega arith)))
+        lfe q (no u) = omega (arith, u, b .last (omega arith), start)
+    go false e k =
+        let sides = both (leb 37 end) (leb end 253) (both (leb 37 end && leb end 253) (eqb ((end - 1) % 3) 0) k .0) in
+        absurd (omega (arith, leb-true 37 end (sides .0), b .last (omega arith), start))
+
+-- a bin below end lies in one of the bands
+below-bands : (end n bin : ℕ) → end ≤ 253 → Bands end n → bin < end → entry masktab bin < n
+below-bands end n bin few b h = go (decLt (entry masktab bin) n)
+  where
+    k : ℕ
+    k = entry masktab bin
+
+    go : Dec (k < n) → k < n
+    go (yes u) = u
+    go (no u) =
+        let most = masktab-most bin in
+        absurd (omega (arith, b .last (omega (arith, u, most)), never-falls 49 (entry bndtab) bndtab-steps n k (omega (arith, u)) (omega arith), masktab-holds-bin bin (omega arith) .low))
+
+-- ---- the arrays
+
+pub powers-most : (exp : List ℕ) (end : ℕ) (powers : List ℕ) → powers ≡ tab 51 (bndpsd exp 0 end) → (k : ℕ) → getD powers k 0 ≤ 3492
+powers-most exp end powers e k = rw e (go (decLt k 51))
+  where
+    go : Dec (k < 51) → getD (tab 51 (bndpsd exp 0 end)) k 0 ≤ 3492
+    go (yes l) = rw (getD-tab 51 (bndpsd exp 0 end) k l) (bndpsd-most exp 0 end k)
+    go (no l) = rw (List·getD-eq-default (tab 51 (bndpsd exp 0 end)) 0 {n = k} (omega (arith, l, length-tab 51 (bndpsd exp 0 end)))) (omega arith)
+
+-- an array that is filled up to n, from one that has the same number everywhere
+module _ (f : ℕ → ℕ) (v most n : ℕ) (xs zs : List ℕ) (few : n ≤ 50) (e : xs ≡ front f n zs) (z : zs ≡ replicate 50 v) where
+  zeros-long : length zs ≡ 50
+  zeros-long = ap length z ∙ length-replicate {A = ℕ} 50 v
+
+  pub array-long : length xs ≡ 50
+  array-long = ap length e ∙ length-front f n zs (omega (arith, zeros-long)) ∙ zeros-long
+
+  pub array-at : (k : ℕ) → k < n → getD xs k 0 ≡ f k
+  array-at k h = ap (λ (l : List ℕ). getD l k 0) e ∙ getD-front f n zs k h
+
+  pub array-most : ((k : ℕ) → f k ≤ most) → v ≤ most → (k : ℕ) → getD xs k 0 ≤ most
+  array-most h l k = rw e (go (decLt k n) (decLt k 50))
+    where
+      go : Dec (k < n) → Dec (k < 50) → getD (front f n zs) k 0 ≤ most
+      go (yes u) _ = rw (getD-front f n zs k u) (h k)
+      go (no u) (yes w) = rw (getD-behind f n zs k (omega (arith, u)), z, getD-replicate {A = ℕ} 50 k v 0 w) l
+      go (no u) (no w) = rw (getD-behind f n zs k (omega (arith, u)), List·getD-eq-default zs 0 {n = k} (omega (arith, w, zeros-long))) (omega arith)
+
+excited-most : (p : Leak) (lfe : Bool) (powers : List ℕ) → ((k : ℕ) → getD powers k 0 ≤ 3492) → (k : ℕ) → excitedBy p lfe powers k ≤ 3492
+unfolding excitedBy
+excited-most p lfe powers h k = after-le p lfe (λ i. getD powers i 0) 3492 h (suc k) .excite≤
+
+pub excites-small : (p : Leak) (lfe : Bool) (powers : List ℕ) (n : ℕ) (xs zs : List ℕ) → n ≤ 50 → xs ≡ front (excitedBy p lfe powers) n zs → zs ≡ replicate 50 0
+    → ((k : ℕ) → getD powers k 0 ≤ 3492) → (k : ℕ) → getD xs k 0 ≤ 8191
+excites-small p lfe powers n xs zs few e z h =
+    array-most (excitedBy p lfe powers) 0 8191 n xs zs few e z (λ k. omega (arith, excited-most p lfe powers h k)) (omega arith)
+
+row-long : (fscod : ℕ) → fscod ≤ 2 → length (row hth fscod) ≡ 50
+unfolding row hth
+row-long zero h = refl
+row-long (suc zero) h = refl
+row-long (suc (suc zero)) h = refl
+row-long (suc (suc (suc n))) h = absurd (omega arith)
+
+pub thresholds-long : (fscod : ℕ) (table : List ℕ) → fscod ≤ 2 → table ≡ row hth fscod → length table ≡ 50
+thresholds-long fscod table h e = ap length e ∙ row-long fscod h
+
+pub thresholds-least : (fscod : ℕ) (table : List ℕ) → fscod ≤ 2 → table ≡ row hth fscod → (k : ℕ) → k < 50 → 512 ≤ getD table k 0
+unfolding entry
+thresholds-least fscod table h e k l = rw e (omega (arith, hth-least fscod k (omega arith) l))
+
+-- ---- the whole
+
+-- what the arrays hold
+pub record Arrays (common : Common) (channel : ChannelRecord) (end : ℕ) (exp : List ℕ) (p : Parameters) (n : ℕ) (powers excites added thresholds : List ℕ) : Type 0 where
+  pub parameters : p ≡ parametersOf common channel
+  pub bands : Bands end n
+  pub powers-are : powers ≡ tab 51 (bndpsd exp 0 end)
+  pub excites-are : (k : ℕ) → k < n → getD excites k 0 ≡ excitedBy (p .leak) (lfeEnd end) powers k
+  pub added-are : (k : ℕ) → k < n → getD added k 0 ≡ heldDeltas (channel .offst) (channel .len) (channel .ba) (channel .nseg) k
+  pub thresholds-are : thresholds ≡ row hth (common .fscod)
+
+pub arrays : (common : Common) (channel : ChannelRecord) (end : ℕ) (exp : List ℕ) (p : Parameters) (n : ℕ) (powers excites added thresholds zeros nothing : List ℕ)
+    → p ≡ parametersOf common channel → Bands end n → powers ≡ tab 51 (bndpsd exp 0 end)
+    → excites ≡ front (excitedBy (p .leak) (lfeEnd end) powers) n zeros → zeros ≡ replicate 50 0
+    → added ≡ front (heldDeltas (channel .offst) (channel .len) (channel .ba) (channel .nseg)) n nothing → nothing ≡ replicate 50 512
+    → thresholds ≡ row hth (common .fscod) → Arrays common channel end exp p n powers excites added thresholds
+arrays common channel end exp p n powers excites added thresholds zeros nothing q b w x z d o t =
+    record {
+      parameters = q;
+      bands = b;
+      powers-are = w;
+      excites-are = array-at (excitedBy (p .leak) (lfeEnd end) powers) 0 0 n excites zeros (b .few) x z;
+      added-are = array-at (heldDeltas (channel .offst) (channel .len) (channel .ba) (channel .nseg)) 512 0 n added nothing (b .few) d o;
+      thresholds-are = t;
+    }
+
+module _ (common : Common) (channel : ChannelRecord) (legal : LegalCodes common channel) (end : ℕ) (few : end ≤ 253) (exp : List ℕ) (p : Parameters) (n : ℕ)
+    (powers excites added thresholds : List ℕ) (a : Arrays common channel end exp p n powers excites added thresholds) where
+  power-at : (k : ℕ) → k < 51 → getD powers k 0 ≡ bndpsd exp 0 end k
+  power-at k h = ap (λ (l : List ℕ). getD l k 0) (a .powers-are) ∙ getD-tab 51 (bndpsd exp 0 end) k h
+
+  excite-at : (k : ℕ) → k < n → getD excites k 0 ≡ after (p .leak) (lfeEnd end) (bndpsd exp 0 end) (suc k) .excite
+  unfolding excitedBy
+  excite-at k h =
+      let m = a .bands .few in
+      a .excites-are k h
+      ∙ ap (λ (s : Leaks). s .excite) (after-same (p .leak) (lfeEnd end) (λ i. getD powers i 0) (bndpsd exp 0 end) (suc k) (λ i l. power-at i (omega arith)))
+
+  -- a bin below end has the bap that the allocation says
+  by-is : (bin : ℕ) → bin < end → bapBy p powers excites added thresholds exp bin ≡ heldBin common channel end exp bin
+  unfolding bapBy heldBin heldBelow bapAt levelAt entry
+  by-is bin h =
+      let k = entry masktab bin in
+      let l : k < n = below-bands end n bin few (a .bands) h in
+      let m = a .bands .few in
+      rw (excite-at k l, power-at k (omega arith), a .added-are k l, a .thresholds-are, a .parameters, lt-ltb bin end h)
+
+  from-end : (i : ℕ) → 0 ≡ heldBin common channel end exp (end + i)
+  unfolding heldBin
+  from-end i = rw (le-ltb (end + i) end (omega arith))
+
+  -- filled below end, and 0 from end on
+  pub allocate-done : (l ys : List ℕ) (size : ℕ) → end ≤ length l → length l ≡ size → take end l ≡ tab end (bapBy p powers excites added thresholds exp)
+      → ys ≡ tab (length (take (length l - end) (drop end l))) (λ i. 0) → placed end (length l - end) l ys ≡ allocated common channel end exp size
+  allocate-done l ys size h m e y =
+      let f = heldBin common channel end exp in
+      let first : take end l ≡ tab end f = e ∙ tab-cong (bapBy p powers excites added thresholds exp) f end by-is in
+      let z : length (take (length l - end) (drop end l)) ≡ length l - end = rw (length-take, length-drop) (omega arith) in
+      let rest : ys ≡ tab (length l - end) (λ i. f (end + i)) = y ∙ rw z (tab-cong (λ i. 0) (λ i. f (end + i)) (length l - end) (λ i _. from-end i)) in
+      let d = tab-part f l ys end (length l) h (omega arith) first rest in
+      let whole : placed end (length l - end) l ys ≡ tab (length l) f =
+      sym (take-length (placed end (length l - end) l ys)) ∙ ap (λ (k : ℕ). take k (placed end (length l - end) l ys)) (d .1) ∙ d .0 in
+      whole ∙ rw m (sym (allocated-held common channel legal end exp size))

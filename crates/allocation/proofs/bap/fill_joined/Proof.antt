@@ -1,0 +1,138 @@
+-- Each turn fills one band: the laws of Filling.antt.
+use Prim.Native.Nat.{_-_, _≤_}
+use mathlib.Core.Path.{ap, _∙_}
+use native.Mathlib.Omega.{arith}
+use lib.ListN.{length, take, drop}
+use Rattle.allocation.specs.Held.{bapBy}
+use Rattle.allocation.proofs.Joining.{NextBin, ends-at, next-bounds}
+use Rattle.allocation.proofs.Filling.{length-window, Filled, filled-start, filled-more, filled-end, part-lengths, part-exponents, windows-read}
+use Rattle.allocation.proofs.bap.fill_joined.Statement.{statement}
+use Rattle.allocation.proofs.bap.fill_joined.Tie as tie
+
+abbrev Inv-loop : tie.InvT-loop
+Inv-loop exp end p powers excites added hth bndsz window bap₀ band₀ bin₀ bap band bin = Filled (bapBy p powers excites added hth exp) end bap₀ band bin bap
+
+abbrev μ-loop : tie.MeasureT-loop
+μ-loop exp end p powers excites added hth bndsz window bap₀ band₀ bin₀ bap band bin = end - bin
+
+loop-holds : tie.Need-loop-holds Inv-loop μ-loop
+loop-holds c = filled-start _ _ _ (c .before .before .pre .0 .0) (c .before .before .pre .1 .1 .1 .1 .1)
+
+element-copy-out-band-end : tie.Need-element-copy-out-band-end Inv-loop μ-loop
+element-copy-out-band-end c = omega (arith, c .before .loop .inv .here (c .loop-test .taken) .0)
+
+mul-band-base : tie.Need-mul-band-base Inv-loop μ-loop
+mul-band-base c = omega (arith, c .before .before .before .loop .inv .here (c .before .before .loop-test .taken) .0)
+
+element-copy-out-band-base : tie.Need-element-copy-out-band-base Inv-loop μ-loop
+element-copy-out-band-base c = omega (arith, c .before .before .before .loop .inv .here (c .before .before .loop-test .taken) .0)
+
+mul-band-base-2 : tie.Need-mul-band-base-2 Inv-loop μ-loop
+mul-band-base-2 c = omega (arith, c .before .before .before .before .loop .inv .here (c .before .before .before .loop-test .taken) .0)
+
+element-copy-out-band-base-2 : tie.Need-element-copy-out-band-base-2 Inv-loop μ-loop
+element-copy-out-band-base-2 c = omega (arith, c .before .before .before .before .loop .inv .here (c .before .before .before .loop-test .taken) .0)
+
+mul-band-base-3 : tie.Need-mul-band-base-3 Inv-loop μ-loop
+mul-band-base-3 c = omega (arith, c .before .before .before .before .before .loop .inv .here (c .before .before .before .before .loop-test .taken) .0)
+
+element-copy-out-band-base-3 : tie.Need-element-copy-out-band-base-3 Inv-loop μ-loop
+element-copy-out-band-base-3 c = omega (arith, c .before .before .before .before .before .loop .inv .here (c .before .before .before .before .loop-test .taken) .0)
+
+mul-band-base-4 : tie.Need-mul-band-base-4 Inv-loop μ-loop
+mul-band-base-4 c = omega (arith, c .before .before .before .before .before .before .loop .inv .here (c .before .before .before .before .before .loop-test .taken) .0)
+
+element-copy-out-band-base-4 : tie.Need-element-copy-out-band-base-4 Inv-loop μ-loop
+element-copy-out-band-base-4 c = omega (arith, c .before .before .before .before .before .before .loop .inv .here (c .before .before .before .before .before .loop-test .taken) .0)
+
+band-base-requires : tie.Need-band-base-requires Inv-loop μ-loop
+band-base-requires c κs =
+    let r = c .before .before .before .before .before .before .before .before .before .before .pre .1 .1 in
+    (r .0, r .1 .1 .0 .0 (c .before .before .before .before .before .before .before .loop .band))
+
+-- where the band ends
+next-of : (c : tie.After-band-base Inv-loop μ-loop) → NextBin (c .before .before .before .before .before .before .before .before .before .before .before .args .end) (c .before .before .before .before .before .before .before .before .loop .band) (c .before .before .before .before .before .before .before .before .loop .bin) (c .before .before .before .before .before .band-end .result)
+next-of c =
+    let h = c .before .before .before .before .before .before .before .before .loop .inv .here (c .before .before .before .before .before .before .before .loop-test .taken) in
+    let r = c .before .before .before .before .before .before .before .before .before .before .before .pre in
+    next-bounds _ _ _ _ (h .0) (h .1) (c .before .before .before .before .before .before .before .loop-test .taken) (r .0 .1) (ends-at _ _ _ _ _ (h .1) (r .1 .1 .1 .0 .5) (c .before .before .before .before .before .band-end .ensures))
+
+sub-fill-band : tie.Need-sub-fill-band Inv-loop μ-loop
+sub-fill-band c = omega (arith, next-of c)
+
+part-fill-band-start : tie.Need-part-fill-band-start Inv-loop μ-loop
+part-fill-band-start c = omega (arith, next-of c)
+
+part-fill-band-end : tie.Need-part-fill-band-end Inv-loop μ-loop
+part-fill-band-end c = omega (arith, next-of c, c .before .before .before .before .before .before .before .before .before .before .before .pre .0)
+
+sub-fill-band-2 : tie.Need-sub-fill-band-2 Inv-loop μ-loop
+sub-fill-band-2 c = omega (arith, next-of (c .before))
+
+part-fill-band-start-2 : tie.Need-part-fill-band-start-2 Inv-loop μ-loop
+part-fill-band-start-2 c = omega (arith, next-of (c .before))
+
+part-fill-band-end-2 : tie.Need-part-fill-band-end-2 Inv-loop μ-loop
+part-fill-band-end-2 c = omega (arith, next-of (c .before), c .before .before .before .before .before .before .before .before .before .loop .inv .same-length, c .before .before .before .before .before .before .before .before .before .before .before .before .pre .0)
+
+fill-band-requires : tie.Need-fill-band-requires Inv-loop μ-loop
+fill-band-requires c κs =
+    let r = c .before .before .before .before .before .before .before .before .before .before .before .before .before .pre in
+    let n = next-of (c .before .before) in
+    let b = c .before .before .band-base .ensures in
+    let room : c .before .before .before .before .before .before .before .before .before .before .before .before .before .args .end ≤ length (c .before .before .before .before .before .before .before .before .before .before .loop .bap) = omega (arith, r .0, c .before .before .before .before .before .before .before .before .before .before .loop .inv .same-length) in (
+      (part-lengths _ _ _ _ _ (n .middle) (r .0 .2) room, ap length (r .1 .1 .1 .0 .4) ∙ length-window, b .1, b .2),
+      part-exponents _ (c .before .before .before .before .before .before .before .before .before .before .loop .bap) _ _ _ (n .middle) (r .0 .2) room (r .1 .0),
+    )
+
+add-band : tie.Need-add-band Inv-loop μ-loop
+add-band c = omega (arith, c .before .before .before .before .before .before .before .before .before .before .before .before .before .loop .inv .here (c .before .before .before .before .before .before .before .before .before .before .before .before .loop-test .taken) .0)
+
+loop-less : tie.Need-loop-less Inv-loop μ-loop
+loop-less c = omega (arith, next-of (c .before .before .before .before .before))
+
+loop-again : tie.Need-loop-again Inv-loop μ-loop
+loop-again c =
+    let r = c .before .before .before .before .before .before .before .before .before .before .before .before .before .before .before .before .pre in
+    let f = c .before .before .before .before .before .before .before .before .before .before .before .before .before .loop .inv in
+    let h = f .here (c .before .before .before .before .before .before .before .before .before .before .before .before .loop-test .taken) in
+    let n = ends-at _ _ _ _ _ (h .1) (r .1 .1 .1 .0 .5) (c .before .before .before .before .before .before .before .before .before .before .band-end .ensures) in
+    filled-more _ _ _ _ _ _ (r .1 .1 .0 .2) _ _ (r .0 .1) (r .0 .3) (r .1 .0) _ _ _ _ _ _ f (c .before .before .before .before .before .before .before .before .before .before .before .before .loop-test .taken) n (r .1 .1 .1 .1 .0 .1 _ (h .0)) (c .before .before .before .before .before .band-base .ensures .0)
+    (windows-read _ _ _ (take (c .before .before .before .before .before .before .before .before .before .before .band-end .result - c .before .before .before .before .before .before .before .before .before .before .before .before .before .loop .bin) (drop (c .before .before .before .before .before .before .before .before .before .before .before .before .before .loop .bin) (c .before .before .before .before .before .before .before .before .before .before .before .before .before .before .before .before .args .exp .now))) _ (r .1 .1 .1 .0 .4) (c .before .before .fill-band .ensures))
+
+same-length : tie.Need-same-length Inv-loop μ-loop
+same-length c = c .before .loop .inv .same-length
+
+returns : tie.Need-returns Inv-loop μ-loop
+returns c = filled-end _ _ _ _ _ _ (c .before .loop .inv) (c .loop-test .left)
+
+pub fill-joined-spec : {M : Type 1} → statement M
+fill-joined-spec =
+    tie.close
+    (tie.spec
+    Inv-loop
+    μ-loop
+    loop-holds
+    element-copy-out-band-end
+    (λ c κs. omega arith)
+    mul-band-base
+    element-copy-out-band-base
+    mul-band-base-2
+    element-copy-out-band-base-2
+    mul-band-base-3
+    element-copy-out-band-base-3
+    mul-band-base-4
+    element-copy-out-band-base-4
+    band-base-requires
+    sub-fill-band
+    part-fill-band-start
+    part-fill-band-end
+    sub-fill-band-2
+    part-fill-band-start-2
+    part-fill-band-end-2
+    fill-band-requires
+    add-band
+    loop-less
+    loop-again
+    same-length
+    returns)
