@@ -1,31 +1,40 @@
-use ac3core::{compute_bap, preprocess_d15, Refusal};
+//! The allocation of one channel of a sheet, against the model of A/52 7.2.2 in scripts/allocation-edges-stdout.
+use ac3core::{steps::preprocess_d15, ChannelRecord, Common, Refusal, Sheet, SheetBuilder};
 
-/// 44.1 kHz, two channels and the LFE: the LFE's record, that of channel 1 (end 40, one segment), that of channel 0 (end 37).
-const SHEET: [u8; 48] = [
+/// 44.1 kHz, two channels and the LFE: the LFE's record, that of channel 1 (end 40, one segment), that of channel 0
+/// (end 37).
+const BYTES: [u8; 48] = [
     0x00, 0x2e, 0x01, 0x01, 0x02, 0x01, 0x02, 0x01, 0x01, 0x02, 0x04, 0x1e, //
     0x02, 0x07, 0x01, 0x00, 0x00, 0x00, 0x00, 0x00, 0x09, 0x04, 0x00, //
     0x01, 0x28, 0x01, 0x00, 0x00, 0x00, 0x00, 0x00, 0x0f, 0x07, 0x01, 0x07, 0x02, 0x00, //
     0x00, 0x25, 0x03, 0x00, 0x00, 0x00, 0x00, 0x00, 0x00, 0x04, 0x00,
 ];
 
-/// What the channels of that sheet get with `exponents`, from the model of A/52 7.2.2 in scripts/allocation-edges-stdout.
+/// What the channels of that sheet get with `exponents`.
 const CHANNEL_0: [u8; 37] = [
     14, 14, 8, 0, 14, 0, 14, 7, 0, 0, 0, 0, 14, 6, 0, 8, 0, 14, 7, 0, 9, 0, 0, 14, 7, 14, 7, 0, 14, 7, 14, 7, 0, 0, 12,
     0, 12,
 ];
 const CHANNEL_1: [u8; 40] = [
-    15, 14, 8, 0, 15, 0, 15, 12, 4, 0, 2, 0, 15, 9, 0, 9, 0, 15, 11, 1, 12, 2, 0, 15, 9, 15, 9, 0, 15, 10, 15, 10, 2, 0,
-    15, 0, 15, 7, 0, 15,
+    15, 14, 8, 0, 15, 0, 15, 12, 4, 0, 2, 0, 15, 9, 0, 9, 0, 15, 11, 1, 12, 2, 0, 15, 9, 15, 9, 0, 15, 10, 15, 10, 2,
+    0, 15, 0, 15, 7, 0, 15,
 ];
 const LFE: [u8; 7] = [14, 14, 8, 0, 14, 0, 14];
+
+fn sheet() -> Sheet {
+    Sheet::check(&BYTES).unwrap()
+}
 
 fn exponents() -> [u8; 256] {
     std::array::from_fn(|i| ((7 * i + 11 * (i / 5)) % 25) as u8)
 }
 
 /// A sheet of one channel with these codes, all others 0.
-fn one_channel(fscod: u8, csnroffst: u8, fsnroffst: u8, fgaincod: u8, end: u8) -> [u8; 23] {
-    [0, 0x15, 1, fscod, 1, 0, 0, 0, 0, 0, 0, csnroffst, 0, end, 1, 0, 0, 0, 0, 0, fsnroffst, fgaincod, 0]
+fn one_channel(fscod: u8, csnroffst: u8, fsnroffst: u8, fgaincod: u8, end: u8) -> Sheet {
+    SheetBuilder::new(Common { fscod, csnroffst, ..Common::default() })
+        .channel(ChannelRecord { fsnroffst, fgaincod, ..ChannelRecord::new(end) })
+        .check()
+        .unwrap()
 }
 
 #[test]
@@ -33,9 +42,10 @@ fn each_channel_by_its_own_record() {
     let exp = exponents();
     for (channel, want) in [(0, &CHANNEL_0[..]), (1, &CHANNEL_1[..]), (2, &LFE[..])] {
         let mut bap = [0xa5u8; 40];
-        assert_eq!(compute_bap(&SHEET, channel, &exp[..want.len()], &mut bap[..want.len()]), Ok(()), "channel {channel}");
-        assert_eq!(bap[..want.len()], *want, "channel {channel}");
-        assert!(bap[want.len()..].iter().all(|&b| b == 0xa5));
+        let n = want.len();
+        assert_eq!(sheet().compute_bap(channel, &exp[..n], &mut bap[..n]), Ok(()), "channel {channel}");
+        assert_eq!(bap[..n], *want, "channel {channel}");
+        assert!(bap[n..].iter().all(|&b| b == 0xa5));
     }
 }
 
@@ -44,41 +54,39 @@ fn from_end_on_exponents_are_ignored_and_baps_become_0() {
     let mut exp = exponents();
     exp[37..].fill(255);
     let mut bap = [0xa5u8; 256];
-    assert_eq!(compute_bap(&SHEET, 0, &exp, &mut bap), Ok(()));
+    assert_eq!(sheet().compute_bap(0, &exp, &mut bap), Ok(()));
     assert_eq!(bap[..37], CHANNEL_0);
     assert_eq!(bap[37..], [0; 219]);
 }
 
 #[test]
 fn refusals_in_order_leave_the_baps() {
+    use Refusal::{BadExponent, OutOfRange, WrongLength};
     let mut loud = exponents();
     loud[6] = 25;
-    let refused = |sheet: &[u8], channel, exp: &[u8], n: usize, number| {
+    let refused = |channel, exp: &[u8], n: usize, refusal| {
         let mut bap = vec![0xa5u8; n];
-        assert_eq!(compute_bap(sheet, channel, exp, &mut bap), Err(Refusal(number)));
+        assert_eq!(sheet().compute_bap(channel, exp, &mut bap), Err(refusal));
         assert!(bap.iter().all(|&b| b == 0xa5));
     };
-    refused(&SHEET[..47], 3, &loud[..6], 6, 1);
-    let mut sheet = SHEET;
-    sheet[3] = 3;
-    refused(&sheet, 3, &loud[..6], 6, 2);
-    refused(&SHEET, 3, &loud[..6], 6, 2);
-    refused(&SHEET, u32::MAX, &loud, 256, 2);
-    refused(&SHEET, 2, &loud[..6], 7, 10);
-    refused(&SHEET, 2, &loud, 6, 10);
-    refused(&SHEET, 1, &loud, 39, 10);
-    refused(&SHEET, 2, &[0; 257], 256, 10);
-    refused(&SHEET, 2, &loud, 257, 10);
-    refused(&SHEET, 2, &loud, 7, 4);
+    refused(3, &loud[..6], 6, OutOfRange);
+    refused(usize::MAX, &loud, 256, OutOfRange);
+    refused(1 << 32, &loud, 256, OutOfRange);
+    refused(2, &loud[..6], 7, WrongLength);
+    refused(2, &loud, 6, WrongLength);
+    refused(1, &loud, 39, WrongLength);
+    refused(2, &[0; 257], 256, WrongLength);
+    refused(2, &loud, 257, WrongLength);
+    refused(2, &loud, 7, BadExponent);
     loud[6] = 24;
     loud[7] = 25;
-    assert_eq!(compute_bap(&SHEET, 2, &loud, &mut [0; 7]), Ok(()));
+    assert_eq!(sheet().compute_bap(2, &loud, &mut [0; 7]), Ok(()));
 }
 
 #[test]
 fn the_lfe_is_there_only_where_the_sheet_has_it() {
     let mut bap = [0xa5u8; 37];
-    assert_eq!(compute_bap(&one_channel(0, 0, 0, 0, 37), 1, &[0; 37], &mut bap), Err(Refusal(2)));
+    assert_eq!(one_channel(0, 0, 0, 0, 37).compute_bap(1, &[0; 37], &mut bap), Err(Refusal::OutOfRange));
     assert_eq!(bap, [0xa5; 37]);
 }
 
@@ -91,7 +99,8 @@ fn hearing_thresholds_are_those_of_the_standard() {
         let mut exp = vec![value; end];
         assert_eq!(preprocess_d15(&mut exp), Ok(()));
         let mut bap = vec![0xa5; end];
-        assert_eq!(compute_bap(&one_channel(1, csnroffst, fsnroffst, fgaincod, end as u8), 0, &exp, &mut bap), Ok(()));
+        let sheet = one_channel(1, csnroffst, fsnroffst, fgaincod, end as u8);
+        assert_eq!(sheet.compute_bap(0, &exp, &mut bap), Ok(()));
         assert_eq!(bap[bin], want, "bin {bin}");
     }
 }
@@ -100,7 +109,7 @@ fn hearing_thresholds_are_those_of_the_standard() {
 #[test]
 fn offsets_of_zero_are_offsets_like_others() {
     let mut bap = [0xa5u8; 37];
-    assert_eq!(compute_bap(&one_channel(0, 0, 0, 7, 37), 0, &[0; 37], &mut bap), Ok(()));
+    assert_eq!(one_channel(0, 0, 0, 7, 37).compute_bap(0, &[0; 37], &mut bap), Ok(()));
     assert_eq!(bap[..28], [1; 28]);
     assert_eq!(bap[28..], [0; 9]);
 }

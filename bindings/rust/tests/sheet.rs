@@ -1,28 +1,140 @@
-use ac3core::{check_sheet, Refusal};
+//! The sheet check, the builder, and what a checked sheet tells of itself.
+mod support;
 
-/// The sheet of document 01's example: one channel, end 37, D15 in block 0.
-const GOOD: [u8; 23] = [
-    0x00, 0x15, 0x01, 0x00, 0x01, 0x00, 0x00, 0x00, 0x00, 0x00, 0x00, 0x00, 0x00, 0x25, 0x01, 0x00, 0x00, 0x00, 0x00,
-    0x00, 0x00, 0x00, 0x00,
-];
+use ac3core::{ChannelRecord, Common, Refusal, Segment, Sheet, SheetBuilder, Strategy};
+use support::{example, Random, EXAMPLE};
 
 #[test]
 fn the_example_is_accepted() {
-    assert_eq!(check_sheet(&GOOD), Ok(()));
+    let sheet = example();
+    assert_eq!(sheet.as_bytes(), EXAMPLE);
+    assert_eq!((sheet.channels(), sheet.lfe(), sheet.ends(), sheet.entries()), (1, None, vec![37], 1536));
+    assert_eq!(sheet.common(), Common::default());
+    assert_eq!(sheet.records(), [ChannelRecord::new(37)]);
 }
 
 #[test]
 fn every_cut_is_a_fault_of_structure() {
-    for n in 0..GOOD.len() {
-        assert_eq!(check_sheet(&GOOD[..n]), Err(Refusal(1)), "cut at {n}");
+    for n in 0..EXAMPLE.len() {
+        assert_eq!(Sheet::check(&EXAMPLE[..n]), Err(Refusal::Structure), "cut at {n}");
     }
 }
 
 #[test]
 fn ends_at_the_edges() {
-    for (end, want) in [(36, Err(Refusal(2))), (37, Ok(())), (38, Err(Refusal(2))), (253, Ok(())), (254, Err(Refusal(2)))] {
-        let mut sheet = GOOD;
-        sheet[13] = end;
-        assert_eq!(check_sheet(&sheet), want, "end {end}");
+    for (end, accepted) in [(36, false), (37, true), (38, false), (253, true), (254, false)] {
+        let mut bytes = EXAMPLE;
+        bytes[13] = end;
+        assert_eq!(Sheet::check(&bytes).err(), (!accepted).then_some(Refusal::OutOfRange), "end {end}");
     }
+}
+
+#[test]
+fn the_builder_lays_out_the_example() {
+    let sheet = SheetBuilder::new(Common::default()).channel(ChannelRecord::new(37)).check().unwrap();
+    assert_eq!(sheet, example());
+}
+
+/// The records of a sheet come in any order; they are told by channel number.
+#[test]
+fn records_in_another_order_are_told_by_number() {
+    let head = [0, 0x23, 1, 2, 1, 1, 3, 2, 1, 0, 5, 60];
+    let lfe = [1, 7, 1, 0, 1, 0, 0, 1, 9, 4, 0];
+    let full = [0, 40, 3, 0, 2, 0, 0, 1, 15, 7, 1, 7, 2, 6];
+    let sheet = Sheet::check(&[&head[..], &lfe, &full].concat()).unwrap();
+    let common = Common { fscod: 2, sdcycod: 3, fdcycod: 2, sgaincod: 1, dbpbcod: 0, floorcod: 5, csnroffst: 60 };
+    use Strategy::{Reuse, D15, D25, D45};
+    let records = [
+        ChannelRecord {
+            strategies: [D45, Reuse, D25, Reuse, Reuse, D15],
+            fsnroffst: 15,
+            fgaincod: 7,
+            segments: vec![Segment { offst: 7, len: 2, ba: 6 }],
+            ..ChannelRecord::new(40)
+        },
+        ChannelRecord {
+            strategies: [D15, Reuse, D15, Reuse, Reuse, D15],
+            fsnroffst: 9,
+            fgaincod: 4,
+            ..ChannelRecord::new(7)
+        },
+    ];
+    assert_eq!((sheet.common(), sheet.records(), sheet.lfe()), (common, &records[..], Some(1)));
+    let [full_record, lfe_record] = records;
+    let built = SheetBuilder::new(common).channel(full_record).lfe(lfe_record).check().unwrap();
+    assert_eq!(built.as_bytes(), [&head[..], &full, &lfe].concat());
+}
+
+/// What a builder was given is what the sheet tells, also after its bytes are checked anew.
+#[test]
+fn random_sheets_are_told_as_built() {
+    let mut random = Random(1);
+    for _ in 0..500 {
+        let sheet = random.sheet();
+        assert_eq!(Sheet::check(sheet.as_bytes()).as_ref(), Ok(&sheet));
+        let mut again = SheetBuilder::new(sheet.common());
+        for (channel, record) in sheet.records().iter().cloned().enumerate() {
+            again = if Some(channel) == sheet.lfe() { again.lfe(record) } else { again.channel(record) };
+        }
+        assert_eq!(again.check(), Ok(sheet));
+    }
+}
+
+/// Each value one beyond its range, and counts that a sheet cannot have.
+#[test]
+fn the_builder_refuses_what_is_out_of_range() {
+    let channel = ChannelRecord::new(37);
+    let common = Common::default();
+    let refused = |builder: SheetBuilder| assert_eq!(builder.check(), Err(Refusal::OutOfRange));
+    for beyond in [
+        Common { fscod: 3, ..common },
+        Common { sdcycod: 4, ..common },
+        Common { fdcycod: 4, ..common },
+        Common { sgaincod: 4, ..common },
+        Common { dbpbcod: 4, ..common },
+        Common { floorcod: 8, ..common },
+        Common { csnroffst: 64, ..common },
+    ] {
+        refused(SheetBuilder::new(beyond).channel(channel.clone()));
+    }
+    let segment = Segment { offst: 0, len: 0, ba: 0 };
+    for beyond in [
+        ChannelRecord { strategies: [Strategy::Reuse; 6], ..channel.clone() },
+        ChannelRecord { fsnroffst: 16, ..channel.clone() },
+        ChannelRecord { fgaincod: 8, ..channel.clone() },
+        ChannelRecord { segments: vec![Segment { offst: 32, ..segment }], ..channel.clone() },
+        ChannelRecord { segments: vec![Segment { len: 16, ..segment }], ..channel.clone() },
+        ChannelRecord { segments: vec![Segment { ba: 8, ..segment }], ..channel.clone() },
+        ChannelRecord { segments: vec![segment; 9], ..channel.clone() },
+        ChannelRecord { segments: vec![segment; 300], ..channel.clone() },
+    ] {
+        refused(SheetBuilder::new(common).channel(beyond));
+    }
+    refused(SheetBuilder::new(common));
+    refused(SheetBuilder::new(common).lfe(ChannelRecord::new(7)));
+    refused((0..6).fold(SheetBuilder::new(common), |builder, _| builder.channel(channel.clone())));
+    refused((0..300).fold(SheetBuilder::new(common), |builder, _| builder.channel(channel.clone())));
+    refused(SheetBuilder::new(common).channel(channel.clone()).lfe(channel));
+}
+
+/// Nine segments, which the builder refuses itself, are refused by the sheet check in the same way.
+#[test]
+fn nine_segments_are_out_of_range_for_the_check_too() {
+    let mut bytes = EXAMPLE.to_vec();
+    bytes[1] += 3 * 9;
+    bytes[22] = 9;
+    bytes.extend([0; 3 * 9]);
+    assert_eq!(Sheet::check(&bytes), Err(Refusal::OutOfRange));
+}
+
+#[test]
+#[should_panic(expected = "channel 1 of a sheet of 1")]
+fn a_part_of_no_channel() {
+    example().part(0, 1);
+}
+
+#[test]
+#[should_panic(expected = "block 6 of a frame of 6")]
+fn a_part_of_no_block() {
+    example().bins(6, 0);
 }

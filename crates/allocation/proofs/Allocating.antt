@@ -11,30 +11,31 @@ use lib.Seq.{take-length}
 use borrow.Author.Tests.{lt-ltb, le-ltb, eqb-true, leb-true}
 use Rattle.bits.specs.Parts.{tab, placed}
 use Rattle.bits.specs.PartsLaws.{length-tab, getD-tab, tab-cong}
+use Rattle.bits.specs.Tests.{both}
 use Rattle.tables.specs.Bands.{bndtab, masktab}
-use Rattle.tables.specs.Computed.{allBelow, at-index, never-falls}
+use Rattle.tables.specs.Computed.{allBelow, at-index}
 use Rattle.tables.specs.Entry.{entry, row}
 use Rattle.tables.specs.Masking.{hth}
 use Rattle.tables.specs.Parameters.{floortab}
-use Rattle.tables.specs.Rules.{masktab-holds-bin, masktab-most, dbpbtab-most, hth-least}
+use Rattle.tables.specs.Rules.{masktab-holds-bin, masktab-most, bndtab-never-falls, bndtab-one, dbpbtab-most, hth-least, length-hth}
 use Rattle.sheet.specs.Ranges.{lfeEnd, fullEnd, legalEnd}
-use Rattle.sheet.specs.Tests.{both}
 use Rattle.sheet.specs.declared.common_part.Common.{Common}
 use Rattle.sheet.specs.declared.record.ChannelRecord.{ChannelRecord}
 use Rattle.excitation.specs.BandPsd.{bndpsd}
-use Rattle.excitation.specs.BandPsdLaws.{bndpsd-most, bndtab-one}
-use Rattle.excitation.specs.Held.{after, after-le, after-same}
+use Rattle.excitation.specs.BandPsdLaws.{bndpsd-most}
+use Rattle.excitation.specs.BandOrder.{Bands}
+use Rattle.excitation.specs.Front.{front}
+use Rattle.excitation.specs.FrontLaws.{length-front, getD-front, getD-behind, tab-zeros}
+use Rattle.excitation.specs.Held.{after, excitedBy}
+use Rattle.excitation.specs.HeldLaws.{after-le, after-same}
 use Rattle.excitation.specs.declared.excitation.Leak.{Leak}
 use Rattle.excitation.specs.declared.excitation.Leaks.{Leaks}
 use Rattle.masking.specs.Held.{heldDeltas}
 use Rattle.allocation.specs.Initialization.{dbkneeOf}
 use Rattle.allocation.specs.Allocation.{allocated, LegalCodes}
-use Rattle.allocation.specs.Walk.{Bands}
-use Rattle.allocation.specs.Held.{heldFloor, heldOffset, parametersOf, front, excitedBy, levelAt, bapBy, bapAt, heldBelow, heldBin}
+use Rattle.allocation.specs.Held.{heldFloor, heldOffset, parametersOf, Small, levelAt, bapBy, bapAt, heldBelow, heldBin}
 use Rattle.allocation.specs.HeldLaws.{allocated-held}
 use Rattle.allocation.specs.declared.initialization.Parameters.{Parameters}
-use Rattle.allocation.proofs.Front.{length-front, getD-front, getD-behind}
-use Rattle.allocation.proofs.Joining.{bndtab-steps}
 use Rattle.allocation.proofs.Filling.{tab-part}
 
 -- ---- the parameters
@@ -44,7 +45,7 @@ unfolding heldFloor entry floortab
 floor-most-all = tt
 
 pub parameters-small : (common : Common) (channel : ChannelRecord) (p : Parameters) → LegalCodes common channel → p ≡ parametersOf common channel
-    → (p .dbknee ≤ 8191) × (p .snroffset ≤ 65535) × (p .floor ≤ 5120)
+    → Small p
 unfolding parametersOf dbkneeOf heldOffset
 parameters-small common channel p l e =
     let floor : heldFloor (entry floortab (common .floorcod)) ≤ 5120 = leb→le _ _ (at-index 8 (λ (c : ℕ). leb (heldFloor (entry floortab c)) 5120) floor-most-all (common .floorcod) (omega (arith, l .floorcod))) in
@@ -80,7 +81,7 @@ below-bands end n bin few b h = go (decLt (entry masktab bin) n)
     go (yes u) = u
     go (no u) =
         let most = masktab-most bin in
-        absurd (omega (arith, b .last (omega (arith, u, most)), never-falls 49 (entry bndtab) bndtab-steps n k (omega (arith, u)) (omega arith), masktab-holds-bin bin (omega arith) .low))
+        absurd (omega (arith, b .last (omega (arith, u, most)), bndtab-never-falls n k (omega (arith, u)) (omega arith), masktab-holds-bin bin (omega arith) .low))
 
 -- ---- the arrays
 
@@ -119,15 +120,8 @@ pub excites-small : (p : Leak) (lfe : Bool) (powers : List ℕ) (n : ℕ) (xs zs
 excites-small p lfe powers n xs zs few e z h =
     array-most (excitedBy p lfe powers) 0 8191 n xs zs few e z (λ k. omega (arith, excited-most p lfe powers h k)) (omega arith)
 
-row-long : (fscod : ℕ) → fscod ≤ 2 → length (row hth fscod) ≡ 50
-unfolding row hth
-row-long zero h = refl
-row-long (suc zero) h = refl
-row-long (suc (suc zero)) h = refl
-row-long (suc (suc (suc n))) h = absurd (omega arith)
-
 pub thresholds-long : (fscod : ℕ) (table : List ℕ) → fscod ≤ 2 → table ≡ row hth fscod → length table ≡ 50
-thresholds-long fscod table h e = ap length e ∙ row-long fscod h
+thresholds-long fscod table h e = ap length e ∙ length-hth fscod (omega arith)
 
 pub thresholds-least : (fscod : ℕ) (table : List ℕ) → fscod ≤ 2 → table ≡ row hth fscod → (k : ℕ) → k < 50 → 512 ≤ getD table k 0
 unfolding entry
@@ -180,18 +174,18 @@ module _ (common : Common) (channel : ChannelRecord) (legal : LegalCodes common 
       let m = a .bands .few in
       rw (excite-at k l, power-at k (omega arith), a .added-are k l, a .thresholds-are, a .parameters, lt-ltb bin end h)
 
-  from-end : (i : ℕ) → 0 ≡ heldBin common channel end exp (end + i)
+  from-end : (i : ℕ) → heldBin common channel end exp (end + i) ≡ 0
   unfolding heldBin
   from-end i = rw (le-ltb (end + i) end (omega arith))
 
   -- filled below end, and 0 from end on
   pub allocate-done : (l ys : List ℕ) (size : ℕ) → end ≤ length l → length l ≡ size → take end l ≡ tab end (bapBy p powers excites added thresholds exp)
-      → ys ≡ tab (length (take (length l - end) (drop end l))) (λ i. 0) → placed end (length l - end) l ys ≡ allocated common channel end exp size
+      → ys ≡ replicate (length (take (length l - end) (drop end l))) 0 → placed end (length l - end) l ys ≡ allocated common channel end exp size
   allocate-done l ys size h m e y =
       let f = heldBin common channel end exp in
       let first : take end l ≡ tab end f = e ∙ tab-cong (bapBy p powers excites added thresholds exp) f end by-is in
       let z : length (take (length l - end) (drop end l)) ≡ length l - end = rw (length-take, length-drop) (omega arith) in
-      let rest : ys ≡ tab (length l - end) (λ i. f (end + i)) = y ∙ rw z (tab-cong (λ i. 0) (λ i. f (end + i)) (length l - end) (λ i _. from-end i)) in
+      let rest : ys ≡ tab (length l - end) (λ i. f (end + i)) = y ∙ rw z (tab-zeros (λ i. f (end + i)) (length l - end) (λ i _. from-end i)) in
       let d = tab-part f l ys end (length l) h (omega arith) first rest in
       let whole : placed end (length l - end) l ys ≡ tab (length l) f =
       sym (take-length (placed end (length l - end) l ys)) ∙ ap (λ (k : ℕ). take k (placed end (length l - end) l ys)) (d .1) ∙ d .0 in

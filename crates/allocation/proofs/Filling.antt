@@ -6,10 +6,10 @@ use mathlib.Core.Path.{_≡_, refl, sym, ap, _∙_}
 use native.Mathlib.Omega.{arith}
 use lib.Bits.{bitAnd, and-high}
 use lib.Dec.{T, eqb, eqb→eq}
-use lib.ListN.{length, take, drop, getD, replicate, length-take, length-drop, length-replicate, getD-replicate}
+use lib.ListN.{length, take, drop, getD, length-take, length-drop}
 use lib.Seq.{getD-take, getD-drop}
 use Rattle.bits.specs.Parts.{tab, placed}
-use Rattle.bits.specs.PartsLaws.{length-tab, tab-cong, tab-list, placed-front, placed-length}
+use Rattle.bits.specs.PartsLaws.{length-tab, tab-cong, placed-front, placed-length}
 use Rattle.tables.specs.Bands.{bndtab, masktab}
 use Rattle.tables.specs.Computed.{allBelow, at-index}
 use Rattle.tables.specs.Entry.{entry}
@@ -17,13 +17,13 @@ use Rattle.tables.specs.Quantizer.{baptab}
 use Rattle.tables.specs.Rules.{masktab-only}
 use Rattle.excitation.specs.Psd.{psd}
 use Rattle.excitation.specs.BandPsd.{lastbin}
-use Rattle.excitation.specs.BandPsdLaws.{bndtab-one, bndsz-one}
-use Rattle.masking.specs.Held.{heldCurve, heldFrom, heldDeltas}
+use Rattle.excitation.specs.BandOrder.{Starts}
+use Rattle.excitation.specs.BandOrderLaws.{starts-joined, next-bounds}
+use Rattle.excitation.specs.FrontLaws.{tab-split}
+use Rattle.masking.specs.Held.{heldCurve}
 use Rattle.masking.specs.HeldLaws.{curve-least}
-use Rattle.allocation.specs.Held.{front, window, heldLowered, heldAddress, heldBap, heldLevel, heldBase, bapBy}
+use Rattle.allocation.specs.Held.{window, heldLowered, heldAddress, heldBap, heldLevel, heldBase, bapBy}
 use Rattle.allocation.specs.declared.initialization.Parameters.{Parameters}
-use Rattle.allocation.proofs.Front.{tab-split, front-begin}
-use Rattle.allocation.proofs.Joining.{next-bounds, first-joined}
 
 -- ---- the window
 
@@ -98,10 +98,6 @@ module _ (p : Parameters) (powers excites added thresholds exp : List ℕ) (floo
   bap-by bin band base v k small above q e =
       e ∙ rw (q, k) (base-bap p (getD excites band 0) (getD powers band 0) (getD thresholds band 0) (getD added band 0) (getD exp bin 0) small floor above)
 
--- bins below 28 are bands of their own
-pub masktab-single : (bin : ℕ) → bin < 28 → entry masktab bin ≡ bin
-masktab-single bin h = masktab-only bin bin (record { low = omega (arith, bndtab-one bin h); high = omega (arith, bndtab-one bin h, bndsz-one bin h) })
-
 -- the band of its bins, from its first one up to next
 masktab-here : (end band bin next : ℕ) → bin ≡ entry bndtab band → next ≡ lastbin end band → (i : ℕ) → bin + i < next → entry masktab (bin + i) ≡ band
 unfolding lastbin
@@ -135,12 +131,12 @@ module _ (exp bap : List ℕ) (end bin next : ℕ) (below : next ≤ end) (long 
 -- all bins below bin, the first of the band, have their pointers
 pub record Filled (f : ℕ → ℕ) (end : ℕ) (bap₀ : List ℕ) (band bin : ℕ) (bap : List ℕ) : Type 0 where
   pub bin≤ : bin ≤ end
-  pub here : bin < end → (band < 50) × (bin ≡ entry bndtab band)
+  pub here : Starts end band bin
   pub done : take bin bap ≡ tab bin f
   pub same-length : length bap ≡ length bap₀
 
 pub filled-start : (f : ℕ → ℕ) (end : ℕ) (bap₀ : List ℕ) → 28 ≤ end → take 28 bap₀ ≡ tab 28 f → Filled f end bap₀ 28 28 bap₀
-filled-start f end bap₀ h e = record { bin≤ = h; here = λ t. (omega arith, first-joined); done = e; same-length = refl }
+filled-start f end bap₀ h e = record { bin≤ = h; here = starts-joined end; done = e; same-length = refl }
 
 module _ (p : Parameters) (powers excites added thresholds exp : List ℕ) (floor : p .floor ≤ 5120) (end : ℕ) (bap₀ : List ℕ)
     (few : end ≤ 253) (room : end ≤ length bap₀) (small : (i : ℕ) → i < end → getD exp i 0 ≤ 24) where
@@ -161,16 +157,3 @@ module _ (p : Parameters) (powers excites added thresholds exp : List ℕ) (floo
 
 pub filled-end : (f : ℕ → ℕ) (end : ℕ) (bap₀ : List ℕ) (band bin : ℕ) (bap : List ℕ) → Filled f end bap₀ band bin bap → end ≤ bin → take end bap ≡ tab end f
 filled-end f end bap₀ band bin bap s h = let e : bin ≡ end = omega (arith, s .bin≤) in rw e at (s .done)
-
--- ---- no segment
-
-none-added : (offst len ba : List ℕ) (nseg k : ℕ) → nseg ≡ 0 → heldDeltas offst len ba nseg k ≡ 512
-unfolding heldDeltas heldFrom
-none-added offst len ba nseg k e = rw e
-
-pub no-deltas : (offst len ba : List ℕ) (nseg n : ℕ) (l : List ℕ) → nseg ≡ 0 → n ≤ 50 → l ≡ replicate 50 512 → l ≡ front (heldDeltas offst len ba nseg) n l
-no-deltas offst len ba nseg n l z h e =
-    let f = heldDeltas offst len ba nseg in
-    let k : length l ≡ 50 = ap length e ∙ length-replicate {A = ℕ} 50 512 in
-    let each : (i : ℕ) → i < n → getD l i 0 ≡ f i = λ i u. rw e (getD-replicate {A = ℕ} 50 i 512 0 (omega arith)) ∙ sym (none-added offst len ba nseg i z) in
-    front-begin f n l (sym (tab-list l n (omega arith)) ∙ tab-cong (λ i. getD l i 0) f n each)

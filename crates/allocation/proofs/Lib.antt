@@ -1,5 +1,2 @@
-pub mod Front
-pub mod Joining
-pub mod Exciting
 pub mod Filling
 pub mod Allocating

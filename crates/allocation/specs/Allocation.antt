@@ -19,17 +19,18 @@ use Rattle.masking.specs.Delta.{deltas}
 use Rattle.allocation.specs.Initialization.{leakOf, dbkneeOf, floorOf, snroffsetOf}
 use Rattle.allocation.specs.Bap.{bapOf}
 
--- mask[band] of a channel with bins 0 .. end - 1; the LFE is the channel whose end is 7
+-- mask[band] after 7.2.2.5 and 7.2.2.6, of a channel with bins 0 .. end - 1; the LFE is the channel whose end is 7
 unfoldable pub maskOf : Common → ChannelRecord → ℕ → List ℕ → ℕ → ℤ
 maskOf common channel end exp band =
     maskingCurve (excite (leakOf common channel) (lfeEnd end) (bndpsd exp 0 end) band) (bndpsd exp 0 end band) (dbkneeOf common) (common .fscod) band
     +ℤ deltas (channel .offst) (channel .len) (channel .ba) (channel .nseg) band
 
--- the bap of n bins, 0 from end on
+-- the bap of n bins, 0 from end on. The rule of A/52 7.2.2.1.1 for a frame whose offsets are all 0 is not applied, as document 01 has it
+-- (docs/DIFFERENCES.md)
 unfoldable pub allocated : Common → ChannelRecord → ℕ → List ℕ → ℕ → List ℕ
 allocated common channel end exp n = tab n (bapOf (maskOf common channel end exp) (snroffsetOf common channel) (floorOf common) 0 end exp)
 
--- what an allocation needs of the codes: all but the segments that are not there are in range
+-- every code is in its range of document 01, "The track sheet"; a segment from nseg on is not looked at
 pub record LegalCodes (common : Common) (channel : ChannelRecord) : Type 0 where
   pub fscod : common .fscod ≤ 2
   pub sdcycod : common .sdcycod ≤ 3
@@ -45,7 +46,7 @@ pub record LegalCodes (common : Common) (channel : ChannelRecord) : Type 0 where
   pub len : (i : ℕ) → i < channel .nseg → getD (channel .len) i 0 ≤ 15
   pub ba : (i : ℕ) → i < channel .nseg → getD (channel .ba) i 0 ≤ 7
 
--- an end that a sheet may hold, exponents up to 24 below it, slices that hold it
+-- the end is one that a sheet may hold, the exponents below it are at most 24, and both slices reach to it; size is the length of the one for the bap
 pub record LegalBins (exp : List ℕ) (end size : ℕ) : Type 0 where
   pub legal : legalEnd end ≡ true
   pub held : end ≤ length exp
@@ -53,7 +54,7 @@ pub record LegalBins (exp : List ℕ) (end size : ℕ) : Type 0 where
   pub room : end ≤ size
   pub short : size ≤ 256
 
--- the tests of these, as the call makes them
+-- the same as tests: 2, a code or the end out of range; 10, a slice of the wrong length; 4, an exponent above 24
 unfoldable pub segmentInRange : List ℕ → List ℕ → List ℕ → ℕ → Bool
 segmentInRange offst len ba i = leb (getD offst i 0) 31 && leb (getD len i 0) 15 && leb (getD ba i 0) 7
 

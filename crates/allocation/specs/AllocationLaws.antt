@@ -1,4 +1,4 @@
--- Laws of the allocation: its length, its range, what it depends on; which codes are legal; and each answer's cause.
+-- Laws of the allocation: its length, its range, what it depends on; and that the codes of an accepted sheet are legal.
 use Prim.Native.Nat.{ℕ, _≤_, _<_}
 use mathlib.Core.Bool.{Bool, true, false, cond, _&&_}
 use mathlib.Core.List.{List}
@@ -23,7 +23,7 @@ use Rattle.sheet.specs.declared.record.ChannelRecord.{ChannelRecord}
 use Rattle.excitation.specs.Psd.{psd}
 use Rattle.excitation.specs.BandPsd.{bndpsd}
 use Rattle.excitation.specs.BandPsdLaws.{bndpsd-same}
-use Rattle.excitation.specs.Held.{excite-same}
+use Rattle.excitation.specs.HeldLaws.{excite-same}
 use Rattle.allocation.specs.Initialization.{leakOf, floorOf, snroffsetOf}
 use Rattle.allocation.specs.Bap.{lowered, address, bapOf}
 use Rattle.allocation.specs.Allocation.{maskOf, allocated, LegalCodes}

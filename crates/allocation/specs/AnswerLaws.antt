@@ -1,5 +1,5 @@
 -- Each answer's cause: what the tests say, the answer that each way through them gives, and that a refusal has no other cause.
-use Prim.Native.Nat.{ℕ, zero, suc, _≤_, _<_}
+use Prim.Native.Nat.{ℕ, _≤_, _<_}
 use mathlib.Core.Bool.{Bool, true, false, _&&_, true≢false}
 use mathlib.Core.List.{List}
 use mathlib.Core.Path.{_≡_, refl, sym, _∙_}
@@ -8,8 +8,9 @@ use lib.Dec.{leb}
 use lib.ListN.{length, getD}
 use borrow.Author.Tests.{leb-true, le-leb, ne-eqb}
 use Rattle.bits.specs.Refusal as refusal
+use Rattle.bits.specs.Tests.{both}
 use Rattle.sheet.specs.Ranges.{allBelow, legalEnd}
-use Rattle.sheet.specs.Tests.{both, all-seven, all-below}
+use Rattle.sheet.specs.Tests.{all-seven, all-below, all-hold}
 use Rattle.sheet.specs.declared.common_part.Common.{Common}
 use Rattle.sheet.specs.declared.record.ChannelRecord.{ChannelRecord}
 use Rattle.allocation.specs.Allocation.{allocated, LegalCodes, LegalBins, segmentInRange, commonCodes, channelCodes, inRange, rightLengths, exponentsFit, answerOf, leftIn}
@@ -59,16 +60,12 @@ segment-tested : (channel : ChannelRecord) (i : ℕ) → getD (channel .offst) i
 unfolding segmentInRange
 segment-tested channel i o l b = rw (le-leb _ _ o, le-leb _ _ l, le-leb _ _ b)
 
-below-all : (n : ℕ) (f : ℕ → Bool) → ((i : ℕ) → i < n → f i ≡ true) → allBelow n f ≡ true
-below-all zero f h = refl
-below-all (suc n) f h = rw (below-all n f (λ i l. h i (omega arith)), h n (omega arith))
-
 codes-tested : (common : Common) (channel : ChannelRecord) → LegalCodes common channel → (commonCodes common ≡ true) × (channelCodes channel ≡ true)
 unfolding commonCodes channelCodes
 codes-tested common channel l =
     let segment : (i : ℕ) → i < channel .nseg → segmentInRange (channel .offst) (channel .len) (channel .ba) i ≡ true = λ i h. segment-tested channel i (l .offst i h) (l .len i h) (l .ba i h) in (
       rw (le-leb _ _ (l .fscod), le-leb _ _ (l .sdcycod), le-leb _ _ (l .fdcycod), le-leb _ _ (l .sgaincod), le-leb _ _ (l .dbpbcod), le-leb _ _ (l .floorcod), le-leb _ _ (l .csnroffst)),
-      rw (le-leb _ _ (l .nseg), le-leb _ _ (l .fsnroffst), le-leb _ _ (l .fgaincod), below-all (channel .nseg) (segmentInRange (channel .offst) (channel .len) (channel .ba)) segment),
+      rw (le-leb _ _ (l .nseg), le-leb _ _ (l .fsnroffst), le-leb _ _ (l .fgaincod), all-hold (channel .nseg) (segmentInRange (channel .offst) (channel .len) (channel .ba)) segment),
     )
 
 pub range-held : (common : Common) (channel : ChannelRecord) (end : ℕ) → inRange common channel end ≡ true → LegalCodes common channel × (legalEnd end ≡ true)
@@ -107,7 +104,7 @@ exponents-held exp end h bin l = leb-true _ _ (all-below end (λ bin. leb (getD 
 
 exponents-tested : (exp : List ℕ) (end : ℕ) → ((bin : ℕ) → bin < end → getD exp bin 0 ≤ 24) → exponentsFit exp end ≡ true
 unfolding exponentsFit
-exponents-tested exp end h = below-all end (λ bin. leb (getD exp bin 0) 24) (λ bin l. le-leb _ _ (h bin l))
+exponents-tested exp end h = all-hold end (λ bin. leb (getD exp bin 0) 24) (λ bin l. le-leb _ _ (h bin l))
 
 -- ---- each way through the tests
 

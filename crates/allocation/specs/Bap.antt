@@ -13,15 +13,15 @@ use Rattle.tables.specs.Quantizer.{baptab}
 use Rattle.excitation.specs.Psd.{psd}
 use Rattle.excitation.specs.Signed.{hold}
 
--- the mask less the offset and the floor, held to 0, & 0x1fe0, and the floor again
+-- mask -= snroffset; mask -= floor; if (mask < 0) mask = 0; mask &= 0x1fe0; mask += floor
 unfoldable pub lowered : ℤ → ℤ → ℤ → ℤ
 lowered mask snroffset floor = pos (bitAnd (hold (mask -ℤ snroffset -ℤ floor)) 0x1fe0) +ℤ floor
 
--- (psd - mask) >> 5, held to 0 and 63
+-- address = (psd - mask) >> 5, held to 0 .. 63; `shrZ z 32` is z >> 5, which is z / 32 rounded down
 unfoldable pub address : ℕ → ℤ → ℕ
 address power mask = min (hold (shrZ (pos power -ℤ mask) 32)) 63
 
--- bap[bin] of a channel whose bins first .. end - 1 are coded, from the masks of the bands; 0 at any other bin
+-- bap[bin] = baptab[address] of a channel whose bins first .. end - 1 are coded, with the mask of the bin's band; 0 at any other bin
 unfoldable pub bapOf : (ℕ → ℤ) → ℤ → ℤ → ℕ → ℕ → List ℕ → ℕ → ℕ
 bapOf mask snroffset floor first end exp bin =
     cond (leb first bin && ltb bin end)

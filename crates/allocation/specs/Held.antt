@@ -1,11 +1,12 @@
--- The allocation as the code has it, over the natural numbers: the floor and what the mask is lowered to are 2048 up, the offset is 960 up.
--- specs/HeldLaws.antt joins these forms with those of A/52.
-use Prim.Native.Nat.{ℕ, suc, _+_, _-_, _*_, _/_, _%_, min}
-use mathlib.Core.Bool.{Bool, cond}
+-- The allocation as the code has it, not as A/52 7.2.2.1 and 7.2.2.7 write it: natural numbers, with the floor and what the mask is lowered to
+-- 2048 up and the offset 960 up, so that none is negative. specs/HeldLaws.antt shows that the forms are A/52's.
+use Prim.Native.Nat.{ℕ, suc, _+_, _-_, _*_, _/_, _%_, min, _≤_, _<_}
+use mathlib.Core.Bool.{cond}
 use mathlib.Core.List.{List, _++_}
+use mathlib.Core.Path.{_≡_}
 use lib.Bits.{bitAnd}
 use lib.Dec.{ltb}
-use lib.ListN.{getD, drop, replicate}
+use lib.ListN.{length, getD, replicate}
 use Rattle.bits.specs.Parts.{tab}
 use Rattle.tables.specs.Bands.{masktab}
 use Rattle.tables.specs.Entry.{entry, row}
@@ -18,18 +19,19 @@ use Rattle.sheet.specs.declared.record.ChannelRecord.{ChannelRecord}
 use Rattle.excitation.specs.Psd.{psd}
 use Rattle.excitation.specs.BandPsd.{bndpsd}
 use Rattle.excitation.specs.Held.{after}
-use Rattle.excitation.specs.declared.excitation.Leak.{Leak}
 use Rattle.masking.specs.Held.{heldCurve, heldDeltas}
 use Rattle.allocation.specs.Initialization.{leakOf, dbkneeOf}
 use Rattle.allocation.specs.declared.initialization.Parameters.{Parameters}
 
--- a pattern of 16 bits, 2048 up
+-- the floor of a pattern of 16 bits, 2048 up: the least, 0xf800, is -2048
 unfoldable pub heldFloor : ℕ → ℕ
 heldFloor pattern = (pattern + 2048) % 65536
 
+-- the offset, 960 up: the least, of csnroffst 0 and fsnroffst 0, is -960
 unfoldable pub heldOffset : ℕ → ℕ → ℕ
 heldOffset csnroffst fsnroffst = 64 * csnroffst + 4 * fsnroffst
 
+-- all parameters of 7.2.2.1
 unfoldable pub parametersOf : Common → ChannelRecord → Parameters
 parametersOf common channel =
     record {
@@ -39,9 +41,11 @@ parametersOf common channel =
       snroffset = heldOffset (common .csnroffst) (channel .fsnroffst);
     }
 
+-- `lowered` of Bap.antt, 2048 up
 unfoldable pub heldLowered : ℕ → ℕ → ℕ → ℕ
 heldLowered mask snroffset floor = bitAnd (mask + 3008 - (snroffset + floor)) 0x1fe0 + floor
 
+-- the address, by what the mask was lowered to
 unfoldable pub heldAddress : ℕ → ℕ → ℕ
 heldAddress power level = min ((power + 2048 - level) / 32) 63
 
@@ -53,15 +57,7 @@ heldBap level exponent = entry baptab (heldAddress (psd exponent) level)
 unfoldable pub heldLevel : Parameters → ℕ → ℕ → ℕ → ℕ → ℕ
 heldLevel p excite power threshold added = heldLowered (heldCurve excite power (p .dbknee) threshold + added - 512) (p .snroffset) (p .floor)
 
--- ---- as the code walks
-
--- the list l with f 0, f 1, .. f (n - 1) in front
-unfoldable pub front : (ℕ → ℕ) → ℕ → List ℕ → List ℕ
-front f n l = tab n f ++ drop n l
-
--- the excitations of bands whose psds are a list
-unfoldable pub excitedBy : Leak → Bool → List ℕ → ℕ → ℕ
-excitedBy p lfe powers band = after p lfe (λ k. getD powers k 0) (suc band) .excite
+-- ---- the window
 
 -- BAPTAB as a window: entry 111 + address, with 0 before address 0 and 15 behind address 63,
 -- so that an address that is held to 0 .. 63 is read without holding it
@@ -99,3 +95,17 @@ heldBelow common channel end exp =
 -- and of any bin
 unfoldable pub heldBin : Common → ChannelRecord → ℕ → List ℕ → ℕ → ℕ
 heldBin common channel end exp bin = cond (ltb bin end) (heldBelow common channel end exp bin) 0
+
+-- ---- what the code needs of the numbers it is given
+
+-- parameters that its sums can take
+abbrev pub Small : Parameters → Type 0
+Small p = (p .dbknee ≤ 8191) × (p .snroffset ≤ 65535) × (p .floor ≤ 5120)
+
+-- the arrays of the bands: an entry for each band, and one more for the psds; excitations that its sums can take, and thresholds that no delta
+-- makes negative
+abbrev pub BandArrays : List ℕ → List ℕ → List ℕ → List ℕ → Type 0
+BandArrays powers excites added thresholds =
+    (length powers ≡ 51) × (length excites ≡ 50) × (length added ≡ 50) × (length thresholds ≡ 50)
+    × ((k : ℕ) → getD excites k 0 ≤ 8191)
+    × ((k : ℕ) → k < 50 → 512 ≤ getD thresholds k 0)

@@ -26,7 +26,8 @@ use Rattle.excitation.specs.SignedLaws.{hold-sub, hold-shr, pos-diff-sub, diff-
 use Rattle.excitation.specs.Psd.{psd}
 use Rattle.excitation.specs.BandPsd.{bndpsd}
 use Rattle.excitation.specs.Excitation.{excite}
-use Rattle.excitation.specs.Held.{after, excite-held}
+use Rattle.excitation.specs.Held.{after}
+use Rattle.excitation.specs.HeldLaws.{excite-held}
 use Rattle.masking.specs.Threshold.{maskingCurve}
 use Rattle.masking.specs.Delta.{deltas}
 use Rattle.masking.specs.Held.{heldCurve, heldDeltas}

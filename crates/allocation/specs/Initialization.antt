@@ -7,7 +7,7 @@ use Rattle.sheet.specs.declared.common_part.Common.{Common}
 use Rattle.sheet.specs.declared.record.ChannelRecord.{ChannelRecord}
 use Rattle.excitation.specs.declared.excitation.Leak.{Leak}
 
--- sdecay, fdecay, sgain, fgain
+-- sdecay = slowdec[sdcycod], fdecay = fastdec[fdcycod], sgain = slowgain[sgaincod], fgain = fastgain[fgaincod]
 unfoldable pub leakOf : Common → ChannelRecord → Leak
 leakOf common channel =
     record {
@@ -17,13 +17,15 @@ leakOf common channel =
       fgain = entry fastgain (channel .fgaincod);
     }
 
+-- dbknee = dbpbtab[dbpbcod]
 unfoldable pub dbkneeOf : Common → ℕ
 dbkneeOf common = entry dbpbtab (common .dbpbcod)
 
+-- floor = floortab[floorcod]
 unfoldable pub floorOf : Common → ℤ
 floorOf common = signed16 (entry floortab (common .floorcod))
 
--- (((csnroffst - 15) << 4) + fsnroffst) << 2
+-- snroffset = (((csnroffst - 15) << 4) + fsnroffst) << 2
 unfoldable pub snroffset : ℕ → ℕ → ℤ
 snroffset csnroffst fsnroffst = ((pos csnroffst -ℤ pos 15) *ℤ pos 16 +ℤ pos fsnroffst) *ℤ pos 4
 

@@ -4,17 +4,17 @@ ghost use Prim.Native.Nat.{ℕ, _-_, _*_, _<_, _≤_};
 ghost use lib.ListN.{getD, length, take};
 ghost use Rattle.bits.specs.Parts.{tab};
 ghost use Rattle.tables.specs.Bands as bands;
-ghost use Rattle.allocation.specs.Held.{bapBy, heldBase};
+ghost use Rattle.allocation.specs.Held.{BandArrays, Small, bapBy, heldBase};
 ghost use Rattle.allocation.specs.Held as definition;
 use crate::initialization::Parameters;
-use crate::powers::SINGLES;
-use crate::powers::band_end;
+use excitation::SINGLES;
+use excitation::band_end;
 use excitation::less;
 use masking::masking_curve;
 
 // Where a bin with exponent 0 of a band stands in the window. The mask less the offset and the floor is held to 0 before 0x1fe0 is applied.
 fn band_base(p: Parameters, excite: u32, power: u32, threshold: u16, added: u16) -> usize
-    requires { ⌜ (p .dbknee ≤ 8191) × (p .snroffset ≤ 65535) × (p .floor ≤ 5120) ⌝ }
+    requires { ⌜ Small p ⌝ }
     requires { ⌜ excite ≤ 8191 ⌝ }
     ensures { λ r. ⌜ (r ≡ heldBase p excite power threshold added) × (111 ≤ r) × (r ≤ 271) ⌝ }
 {
@@ -58,9 +58,9 @@ fn fill_singles(
 )
     requires { ⌜ (bins ≤ 28) × (bins ≤ length (now exp)) × (bins ≤ length (now bap)) ⌝ }
     requires { ⌜ ((bin : ℕ) → bin < bins → getD (now exp) bin 0 ≤ 24) ⌝ }
-    requires { ⌜ (p .dbknee ≤ 8191) × (p .snroffset ≤ 65535) × (p .floor ≤ 5120) ⌝ }
-    requires { ⌜ (length (now powers) ≡ 51) × (length (now excites) ≡ 50) × (length (now added) ≡ 50) × (length (now hth) ≡ 50) × (now window ≡ definition.window) ⌝ }
-    requires { ⌜ ((k : ℕ) → getD (now excites) k 0 ≤ 8191) × ((k : ℕ) → k < 50 → 512 ≤ getD (now hth) k 0) ⌝ }
+    requires { ⌜ Small p ⌝ }
+    requires { ⌜ BandArrays (now powers) (now excites) (now added) (now hth) ⌝ }
+    requires { ⌜ now window ≡ definition.window ⌝ }
     ensures { λ _. ⌜ take bins (now (bap .exit)) ≡ tab bins (bapBy p (now (powers .entry)) (now (excites .entry)) (now (added .entry)) (now (hth .entry)) (now (exp .entry))) ⌝ }
 {
     let mut bin = 0;
@@ -86,9 +86,9 @@ fn fill_joined(
 )
     requires { ⌜ (28 ≤ end) × (end ≤ 253) × (end ≤ length (now exp)) × (end ≤ length (now bap)) ⌝ }
     requires { ⌜ ((bin : ℕ) → bin < end → getD (now exp) bin 0 ≤ 24) ⌝ }
-    requires { ⌜ (p .dbknee ≤ 8191) × (p .snroffset ≤ 65535) × (p .floor ≤ 5120) ⌝ }
-    requires { ⌜ (length (now powers) ≡ 51) × (length (now excites) ≡ 50) × (length (now added) ≡ 50) × (length (now hth) ≡ 50) × (now window ≡ definition.window) × (now bndsz ≡ bands.bndsz) ⌝ }
-    requires { ⌜ ((k : ℕ) → getD (now excites) k 0 ≤ 8191) × ((k : ℕ) → k < 50 → 512 ≤ getD (now hth) k 0) ⌝ }
+    requires { ⌜ Small p ⌝ }
+    requires { ⌜ BandArrays (now powers) (now excites) (now added) (now hth) ⌝ }
+    requires { ⌜ (now window ≡ definition.window) × (now bndsz ≡ bands.bndsz) ⌝ }
     requires { ⌜ take 28 (now bap) ≡ tab 28 (bapBy p (now powers) (now excites) (now added) (now hth) (now exp)) ⌝ }
     ensures { λ _. ⌜ take end (now (bap .exit)) ≡ tab end (bapBy p (now (powers .entry)) (now (excites .entry)) (now (added .entry)) (now (hth .entry)) (now (exp .entry))) ⌝ }
 {
@@ -117,9 +117,9 @@ pub fn fill_bins(
 )
     requires { ⌜ (end ≤ 253) × (end ≤ length (now exp)) × (end ≤ length (now bap)) ⌝ }
     requires { ⌜ ((bin : ℕ) → bin < end → getD (now exp) bin 0 ≤ 24) ⌝ }
-    requires { ⌜ (p .dbknee ≤ 8191) × (p .snroffset ≤ 65535) × (p .floor ≤ 5120) ⌝ }
-    requires { ⌜ (length (now powers) ≡ 51) × (length (now excites) ≡ 50) × (length (now added) ≡ 50) × (length (now hth) ≡ 50) × (now window ≡ definition.window) ⌝ }
-    requires { ⌜ ((k : ℕ) → getD (now excites) k 0 ≤ 8191) × ((k : ℕ) → k < 50 → 512 ≤ getD (now hth) k 0) ⌝ }
+    requires { ⌜ Small p ⌝ }
+    requires { ⌜ BandArrays (now powers) (now excites) (now added) (now hth) ⌝ }
+    requires { ⌜ now window ≡ definition.window ⌝ }
     ensures { λ _. ⌜ take end (now (bap .exit)) ≡ tab end (bapBy p (now (powers .entry)) (now (excites .entry)) (now (added .entry)) (now (hth .entry)) (now (exp .entry))) ⌝ }
 {
     if end < SINGLES {
@@ -140,15 +140,4 @@ pub fn fill_bins(
         window,
         bap,
     );
-}
-
-// Bins from end on get no bits.
-pub fn clear(bap: &mut [u8])
-    ensures { λ _. ⌜ now (bap .exit) ≡ tab (length (now (bap .entry))) (λ i. 0) ⌝ }
-{
-    let mut i = 0;
-    while i < bap.len() {
-        bap[i] = 0;
-        i += 1;
-    }
 }

@@ -2,12 +2,8 @@
 ghost use mathlib.Core.Path.{_≡_};
 ghost use lib.ListN.{length};
 ghost use Rattle.allocation.specs.Allocation.{LegalBins, LegalCodes, allocated, answerOf, leftIn};
-use crate::bap::clear;
 use crate::bap::fill_bins;
-use crate::deltas::band_deltas;
-use crate::excite::excite_bands;
 use crate::initialization::initialize;
-use crate::powers::band_powers;
 use crate::ranges::exponents_fit;
 use crate::ranges::in_range;
 use crate::ranges::right_lengths;
@@ -16,6 +12,9 @@ use bits::refusal::ACCEPTED;
 use bits::refusal::BAD_EXPONENT;
 use bits::refusal::OUT_OF_RANGE;
 use bits::refusal::WRONG_LENGTH;
+use excitation::band_powers;
+use excitation::excite_bands;
+use masking::band_deltas;
 use sheet::ChannelRecord;
 use sheet::Common;
 
@@ -38,7 +37,7 @@ pub fn allocate(exp: &[u8], end: usize, common: Common, channel: ChannelRecord, 
     let mut added = [512u16; 50];
     band_deltas(&offst, &len, &ba, channel.nseg as usize, bands, &mut added);
     fill_bins(exp, end, p, &powers, &excites, &added, &hth, &window, bap);
-    clear(&mut bap[end..]);
+    slices::fill(&mut bap[end..], 0);
 }
 
 pub fn compute_bap(

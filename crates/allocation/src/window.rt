@@ -1,4 +1,6 @@
 // BAPTAB as a window: an address that the standard holds to 0 .. 63 is read 111 entries further on without being held.
+// It repeats the BAPTAB of crate `tables` since a window made from that table would cost the time of making it at every call; that its middle is
+// that table is its contract.
 ghost use mathlib.Core.Path.{_≡_};
 ghost use Rattle.allocation.specs.Held as definition;
 

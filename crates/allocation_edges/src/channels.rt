@@ -46,15 +46,15 @@ pub fn none() -> Segments {
 
 pub fn common_of(codes: [u8; 9]) -> Common {
     Common {
-        fscod: codes[0],
+        fscod: codes[FSCOD],
         nfchans: 255,
         lfe: 255,
-        sdcycod: codes[1],
-        fdcycod: codes[2],
-        sgaincod: codes[3],
-        dbpbcod: codes[4],
-        floorcod: codes[5],
-        csnroffst: codes[6],
+        sdcycod: codes[SDCYCOD],
+        fdcycod: codes[FDCYCOD],
+        sgaincod: codes[SGAINCOD],
+        dbpbcod: codes[DBPBCOD],
+        floorcod: codes[FLOORCOD],
+        csnroffst: codes[CSNROFFST],
     }
 }
 
@@ -69,8 +69,8 @@ pub fn channel_of(codes: [u8; 9], segments: Segments) -> ChannelRecord {
         channel: 255,
         end: 255,
         blocks: blocks,
-        fsnroffst: codes[7],
-        fgaincod: codes[8],
+        fsnroffst: codes[FSNROFFST],
+        fgaincod: codes[FGAINCOD],
         nseg: segments.nseg,
         offst: offst,
         len: len,

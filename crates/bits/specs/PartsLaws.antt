@@ -4,10 +4,10 @@ use mathlib.Core.List.{List, [], _∷_, _++_, append-assoc, append-nil}
 use Prim.Native.Nat.{ℕ, zero, suc, _+_, _-_, _*_, _≤_, _<_}
 use native.Mathlib.Nat.{zero-add, suc-add, mul-zero, mul-suc, mul-add, mul-one, mul-le-mul-left, not-suc-le-zero}
 use native.Mathlib.Numerals.{add-one}
-use native.Mathlib.Decide.{decLe}
+use native.Mathlib.Decide.{decLe, decLt}
 use native.Mathlib.Omega.{arith}
 use lib.ListN.{length, take, drop, getD, set, length-append, length-take, length-drop, List·getD-append}
-use lib.Seq.{take-add, take-at, drop-at, take-suc, take-suc-set, drop-drop, length-take-le, take-length, getD-at}
+use lib.Seq.{take-add, take-all, take-append-le, drop-append-le, take-at, drop-at, take-suc, take-suc-set, drop-drop, length-take-le, take-length, getD-at}
 use Rattle.bits.specs.Parts.{joined, tab, piece, placed}
 
 -- ---- joined
@@ -157,3 +157,56 @@ fill-length z i a k l ys ea ek h n = placed-length l ys a k (omega arith) (omega
 pub fill-end : (z i k : ℕ) (f : ℕ → List ℕ) (l : List ℕ) → i ≡ k → length l ≡ z * k → take (z * i) l ≡ joined i f → l ≡ joined k f
 fill-end z i k f l q h e =
     sym (take-length l) ∙ ap (λ (m : ℕ). take m l) (h ∙ ap (λ (m : ℕ). z * m) (sym q)) ∙ e ∙ ap (λ (m : ℕ). joined m f) q
+
+-- ---- parts before and behind the one that is written
+
+-- the front after one part more
+pub place-front : (z i a k : ℕ) (l ys : List ℕ) → a ≡ z * i → k ≡ z → z * i + z ≤ length l → length ys ≡ z
+    → take (z * (i + 1)) (placed a k l ys) ≡ take (z * i) l ++ ys
+place-front z i a k l ys ea ek h n =
+    let m : z * (i + 1) ≡ a + k = omega (arith, mul-add z i 1, mul-one z) in
+    rw (m, placed-front l ys a k (omega arith) (omega arith), ea)
+
+-- a part that is still as it was
+pub part-old : (z i a k : ℕ) (l old : List ℕ) → a ≡ z * i → k ≡ z → drop (z * i) l ≡ drop (z * i) old → take k (drop a l) ≡ piece z i old
+unfolding piece
+part-old z i a k l old ea ek e = rw (ea, e, ek)
+
+-- a part filled: what stands behind it is still as it was
+pub place-rest : (z i a k : ℕ) (l ys old : List ℕ) → a ≡ z * i → k ≡ z → z * i + z ≤ length l → length ys ≡ z → drop (z * i) l ≡ drop (z * i) old
+    → drop (z * (i + 1)) (placed a k l ys) ≡ drop (z * (i + 1)) old
+place-rest z i a k l ys old ea ek h n e =
+    let m : z * (i + 1) ≡ a + k = omega (arith, mul-add z i 1, mul-one z) in
+    let q : z * (i + 1) ≡ z * i + z = omega (arith, mul-add z i 1, mul-one z) in
+    let x : drop (a + k) (placed a k l ys) ≡ drop (a + k) l = placed-rest l ys a k (omega arith) (omega arith) in
+    let y : drop (z * (i + 1)) l ≡ drop (z * (i + 1)) old = rw (q, ← drop-drop z (z * i) l, e) (drop-drop z (z * i) old) in
+    rw m (x ∙ (rw m at y))
+
+-- the front of a local array, filled and taken again
+pub front-taken : (n k : ℕ) (l ys : List ℕ) → k ≡ n → length ys ≡ n → take k (ys ++ drop k l) ≡ ys
+front-taken n k l ys e h = take-at ys (drop k l) k (h ∙ sym e)
+
+-- ---- parts that are put behind each other
+
+-- those before the last
+pub piece-front : (z i : ℕ) (xs ys : List ℕ) → z * i + z ≤ length xs → piece z i (xs ++ ys) ≡ piece z i xs
+unfolding piece
+piece-front z i xs ys h =
+    let n : z ≤ length (drop (z * i) xs) = rw length-drop (omega arith) in
+    rw (drop-append-le (z * i) xs ys (omega arith), take-append-le z (drop (z * i) xs) ys n)
+
+-- the last
+pub piece-last : (z i : ℕ) (xs ys : List ℕ) → length xs ≡ z * i → length ys ≡ z → piece z i (xs ++ ys) ≡ ys
+unfolding piece
+piece-last z i xs ys h l = rw (drop-at xs ys (z * i) h, take-all z ys (omega arith))
+
+-- one more part: what holds of each part before it and of it holds of the parts of the whole
+pub parts-more : (z k : ℕ) (P : ℕ → List ℕ → Type 0) (xs v : List ℕ) → length xs ≡ z * k → length v ≡ z → ((i : ℕ) → i < k → P i (piece z i xs)) → P k v
+    → (i : ℕ) → i < suc k → P i (piece z i (xs ++ v))
+parts-more z k P xs v n m before last i l = by-place (decLt i k)
+  where
+    by-place : Dec (i < k) → P i (piece z i (xs ++ v))
+    by-place (yes b) = rw (piece-front z i xs v (omega (arith, within z i k b))) (before i b)
+    by-place (no b) =
+        let e : i ≡ k = omega (arith, b) in
+        rw (e, piece-last z k xs v n m) last

@@ -1,6 +1,5 @@
 // The program of document 01: a track sheet and coefficients on standard input; the exponent and mantissa bits of the six blocks and
 // their sum on standard output, or the number of the refusal.
-ghost use lib.ListN.{length};
 
 fn line(block: u64, exponent_bits: u32, mantissa_bits: u32) {
     io::write_all(1, b"block ");
@@ -45,5 +44,5 @@ fn main() {
     }
     let counts = answer.counts;
     lines(counts);
-    total(answer.bits);
+    total(answer.bits); // the sum of the twelve: frame/specs/Theorems.antt, `body-count`
 }

@@ -1,19 +1,18 @@
--- Laws of the band psds: their bound, the bands of one bin and of none, and that only the coded exponents count.
+-- Laws of the band psds: their bound, that only the coded exponents count, and the bands of one bin and of none.
 use Prim.Native.Nat.{ℕ, zero, suc, _+_, _-_, _/_, min, max, _≤_, _<_}
 use mathlib.Core.List.{List}
-use mathlib.Core.Bool.{_&&_}
 use mathlib.Core.Path.{_≡_, refl, sym, ap}
 use native.Mathlib.Decide.{decLe}
 use native.Mathlib.Numerals.{add-one}
 use native.Mathlib.Omega.{arith}
-use lib.Dec.{T, leb, eqb, leb→le, eqb→eq}
-use lib.Ieee.Fits.{and-l, and-r}
+use lib.Dec.{T, leb, leb→le}
 use lib.ListN.{getD}
 use Rattle.tables.specs.Bands.{bndtab, bndsz}
-use Rattle.tables.specs.Computed.{allBelow, at-index, entry-past}
+use Rattle.tables.specs.Computed.{allBelow, at-index}
 use Rattle.tables.specs.Entry.{entry}
+use Rattle.tables.specs.EntryLaws.{entry-past}
 use Rattle.tables.specs.Masking.{latab}
-use Rattle.tables.specs.Rules.{latab-most, latab-never-rises}
+use Rattle.tables.specs.Rules.{latab-most, latab-never-rises, bndtab-one, bndsz-one}
 use Rattle.excitation.specs.BandPsd.{logadd, joinedPsd, firstbin, lastbin, bndpsd}
 use Rattle.excitation.specs.Psd.{psd}
 
@@ -95,21 +94,7 @@ bndpsd-past exp first end band h =
     omega (arith, entry-past bndtab band h, entry-past bndsz band h) in
     ap (joinedPsd exp (max (entry bndtab band) first)) e
 
--- bands 0 to 27 have one bin each, that of their own number
-one-bin : T (allBelow 28 (λ (k : ℕ). eqb (entry bndtab k) k && eqb (entry bndsz k) 1))
-unfolding entry bndtab bndsz
-one-bin = tt
-
-module _ (band : ℕ) (h : band < 28) where
-  one : T (eqb (entry bndtab band) band && eqb (entry bndsz band) 1)
-  one = at-index 28 (λ (k : ℕ). eqb (entry bndtab k) k && eqb (entry bndsz k) 1) one-bin band h
-
-  pub bndtab-one : entry bndtab band ≡ band
-  bndtab-one = eqb→eq _ _ (and-l (eqb (entry bndtab band) band) (eqb (entry bndsz band) 1) one)
-
-  pub bndsz-one : entry bndsz band ≡ 1
-  bndsz-one = eqb→eq _ _ (and-r (eqb (entry bndtab band) band) (eqb (entry bndsz band) 1) one)
-
-  pub bndpsd-one : (exp : List ℕ) (end : ℕ) → band < end → bndpsd exp 0 end band ≡ psd (getD exp band 0)
-  unfolding joinedPsd
-  bndpsd-one exp end l = sym (bndpsd-bins exp end band band 1 (sym bndtab-one) (omega (arith, bndsz-one)))
+-- a band of one bin has the psd of that bin
+pub bndpsd-one : (band : ℕ) → band < 28 → (exp : List ℕ) (end : ℕ) → band < end → bndpsd exp 0 end band ≡ psd (getD exp band 0)
+unfolding joinedPsd
+bndpsd-one band h exp end l = sym (bndpsd-bins exp end band band 1 (sym (bndtab-one band h)) (omega (arith, bndsz-one band h)))

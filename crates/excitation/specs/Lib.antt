@@ -1,9 +1,13 @@
 pub mod Psd
 pub mod Signed
-pub mod SignedLaws
 pub mod BandPsd
-pub mod BandPsdLaws
 pub mod Excitation
+pub mod SignedLaws
+pub mod BandPsdLaws
 pub mod Held
-pub mod Lent
+pub mod HeldLaws
+pub mod Front
+pub mod FrontLaws
+pub mod BandOrder
+pub mod BandOrderLaws
 pub mod Cases

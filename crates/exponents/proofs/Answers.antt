@@ -13,11 +13,12 @@ use Rattle.bits.specs.Bytes.{bytesFor}
 use Rattle.bits.specs.Read.{from}
 use Rattle.bits.specs.Reading.{ok, fault}
 use Rattle.bits.specs.Refusal as refusal
+use Rattle.bits.specs.Tests.{both}
 use Rattle.shaping.specs.Shaped.{shapedFor}
 use Rattle.sheet.specs.Ranges.{legalEnd}
 use Rattle.shaping.specs.Passes.{isSpan}
 use Rattle.exponents.specs.Groups.{groupCount, exponentBits}
-use Rattle.exponents.specs.GroupsLaws.{both, length-exponentBits}
+use Rattle.exponents.specs.GroupsLaws.{length-exponentBits}
 use Rattle.exponents.specs.Reading.{readExponents}
 use Rattle.exponents.specs.Calls.{inRange, rightLength, exponentsWritten, bitsRead, exponentsRead, entriesOf, exponentsLeft}
 

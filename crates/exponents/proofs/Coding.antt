@@ -9,11 +9,10 @@ use lib.Seq.{getD-take, length-take-le}
 use Rattle.bits.specs.Field.{field}
 use Rattle.bits.specs.Parts.{joined}
 use Rattle.shaping.specs.Shaped.{Shaped}
-use Rattle.exponents.specs.Groups.{Coded, groupCount, codedAt, deltaAt, groupAt, exponentBits}
+use Rattle.exponents.specs.Groups.{delta, group, Coded, groupCount, codedAt, deltaAt, groupAt, groupBits, exponentBits, Near}
 use Rattle.exponents.specs.declared.groups.CodedSpan.{CodedSpan}
 use Rattle.exponents.specs.GroupsLaws.{coded-near}
 use Rattle.exponents.specs.ReadingLaws.{before-coded}
-use Rattle.exponents.specs.ShapedLaws.{Near}
 
 entry-there : (l : List ℕ) (i d e : ℕ) → i < length l → getD l i d ≡ getD l i e
 entry-there [] i d e h = absurd (omega arith)
@@ -46,10 +45,42 @@ module _ (span end : ℕ) (exp : List ℕ) (i : ℕ) (w : 0 < span) (f : Shaped 
   pub first-near : Near (getD exp (1 + 3 * i * span - 1) 0) (getD (take end exp) (1 + 3 * i * span) (getD exp (1 + 3 * i * span - 1) 0))
   first-near = next-near span (take end exp) (3 * i) (1 + 3 * i * span) _ refl before-is w f
 
-  module _ (a : CodedSpan) (ca : Coded (take end exp) (1 + 3 * i * span) (getD exp (1 + 3 * i * span - 1) 0) a) where
-    second-at : 1 + 3 * i * span + span ≡ 1 + suc (3 * i) * span
-    second-at = omega (arith, suc-mul (3 * i) span)
+  second-at : 1 + 3 * i * span + span ≡ 1 + suc (3 * i) * span
+  second-at = omega (arith, suc-mul (3 * i) span)
 
+  third-at : 1 + 3 * i * span + 2 * span ≡ 1 + suc (suc (3 * i)) * span
+  third-at = omega (arith, suc-mul (3 * i) span, suc-mul (suc (3 * i)) span)
+
+  -- no pads: every span begins below end
+  module _ (t : 1 + 3 * i * span + 2 * span < end) where
+    bin-is : (s p : ℕ) → p ≡ 1 + s * span → p < end → getD exp p 0 ≡ codedAt span (take end exp) (suc s)
+    bin-is s p at u = entry-taken exp end p (codedAt span (take end exp) s) u l ∙ coded-is span (take end exp) s p _ at refl
+
+    whole-first : getD exp (1 + 3 * i * span) 0 ≡ codedAt span (take end exp) (suc (3 * i))
+    whole-first = bin-is (3 * i) (1 + 3 * i * span) refl h
+
+    whole-second : getD exp (1 + 3 * i * span + span) 0 ≡ codedAt span (take end exp) (suc (suc (3 * i)))
+    whole-second = bin-is (suc (3 * i)) (1 + 3 * i * span + span) second-at (omega (arith, t))
+
+    whole-third : getD exp (1 + 3 * i * span + 2 * span) 0 ≡ codedAt span (take end exp) (suc (suc (suc (3 * i))))
+    whole-third = bin-is (suc (suc (3 * i))) (1 + 3 * i * span + 2 * span) third-at t
+
+    pub whole-near : Near (getD exp (1 + 3 * i * span - 1) 0) (getD exp (1 + 3 * i * span) 0)
+        × Near (getD exp (1 + 3 * i * span) 0) (getD exp (1 + 3 * i * span + span) 0)
+        × Near (getD exp (1 + 3 * i * span + span) 0) (getD exp (1 + 3 * i * span + 2 * span) 0)
+    whole-near =
+        let near = coded-near span (take end exp) w f in
+        rw (before-is, whole-first, whole-second, whole-third) (near (3 * i), near (suc (3 * i)), near (suc (suc (3 * i))))
+
+    pub whole-is : group (delta (getD exp (1 + 3 * i * span - 1) 0) (getD exp (1 + 3 * i * span) 0))
+        (delta (getD exp (1 + 3 * i * span) 0) (getD exp (1 + 3 * i * span + span) 0))
+        (delta (getD exp (1 + 3 * i * span + span) 0) (getD exp (1 + 3 * i * span + 2 * span) 0))
+        ≡ groupAt span (take end exp) (3 * i)
+    unfolding groupAt
+    whole-is = rw (before-is, whole-first, whole-second, whole-third)
+
+  -- the last group, span by span
+  module _ (a : CodedSpan) (ca : Coded (take end exp) (1 + 3 * i * span) (getD exp (1 + 3 * i * span - 1) 0) a) where
     first-is : a .exponent ≡ codedAt span (take end exp) (suc (3 * i))
     first-is = ca .value ∙ coded-is span (take end exp) (3 * i) (1 + 3 * i * span) _ refl before-is
 
@@ -57,9 +88,6 @@ module _ (span end : ℕ) (exp : List ℕ) (i : ℕ) (w : 0 < span) (f : Shaped 
     second-near = next-near span (take end exp) (suc (3 * i)) (1 + 3 * i * span + span) (a .exponent) second-at first-is w f
 
     module _ (b : CodedSpan) (cb : Coded (take end exp) (1 + 3 * i * span + span) (a .exponent) b) where
-      third-at : 1 + 3 * i * span + 2 * span ≡ 1 + suc (suc (3 * i)) * span
-      third-at = omega (arith, suc-mul (3 * i) span, suc-mul (suc (3 * i)) span)
-
       second-is : b .exponent ≡ codedAt span (take end exp) (suc (suc (3 * i)))
       second-is = cb .value ∙ coded-is span (take end exp) (suc (3 * i)) (1 + 3 * i * span + span) (a .exponent) second-at first-is
 
@@ -77,6 +105,6 @@ module _ (span end : ℕ) (exp : List ℕ) (i : ℕ) (w : 0 < span) (f : Shaped 
 
 -- the bits of the exponents below end
 pub set-bits : (span end : ℕ) (exp : List ℕ) → 0 < end → end ≤ length exp
-    → exponentBits span (take end exp) ≡ field 4 (getD exp 0 0) ++ joined (groupCount end span) (λ g. field 7 (groupAt span (take end exp) (3 * g)))
+    → exponentBits span (take end exp) ≡ field 4 (getD exp 0 0) ++ joined (groupCount end span) (groupBits span (take end exp))
 unfolding exponentBits
 set-bits span end exp w l = rw (getD-take end exp 0 0 w, length-take-le end exp l)

@@ -1,18 +1,15 @@
--- Slices that are filled: entry by entry from the front; and the first entries made anew with 0 behind them.
+-- A slice whose first entries are made anew and whose others become 0.
 use mathlib.Core.Path.{_≡_, ap, _∙_}
-use mathlib.Core.List.{List, [], _++_, append-nil}
-use Prim.Native.Nat.{ℕ, _+_, _-_, _≤_, _<_}
+use mathlib.Core.List.{List, [], append-nil}
+use Prim.Native.Nat.{ℕ, _-_, _≤_}
 use native.Mathlib.Omega.{arith}
-use lib.ListN.{length, set, take, length-append, drop, replicate, length-take, length-drop, drop-of-length-le}
-use lib.Seq.{drop-length, drop-at, take-at, length-take-le}
-use borrow.Author.Fill.{fill-more}
+use lib.ListN.{length, take, length-append, drop, replicate, length-take, length-drop, drop-of-length-le}
+use lib.Seq.{drop-at, take-at, length-take-le}
 use Rattle.bits.specs.Parts.{placed}
 
-pub fill-turn : (l l₀ : List ℕ) (i v : ℕ) → l ≡ replicate i v ++ drop i l₀ → i < length l₀ → set l i v ≡ replicate (i + 1) v ++ drop (i + 1) l₀
-fill-turn l l₀ i v e h = ap (λ (t : List ℕ). set t i v) e ∙ fill-more i v l₀ h
-
-pub fill-end : (l l₀ : List ℕ) (i v : ℕ) → l ≡ replicate i v ++ drop i l₀ → i ≡ length l₀ → l ≡ replicate (length l₀) v
-fill-end l l₀ i v e h = rw (h, drop-length l₀, append-nil) at e
+-- every entry made v, which is 0
+pub all-zero : (l now : List ℕ) (n v : ℕ) → now ≡ replicate n v → n ≡ length l → v ≡ 0 → now ≡ replicate (length l) 0
+all-zero l now n v e k z = e ∙ rw (k, z)
 
 -- the first `end` entries made anew
 module _ (l ys : List ℕ) (end k : ℕ) (e : k ≡ end) (y : length ys ≡ end) (h : end ≤ length l) where

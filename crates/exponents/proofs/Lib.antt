@@ -1,3 +1,4 @@
+-- What the proofs of this crate's functions share, by what they are about.
 pub mod Filling
 pub mod Coding
 pub mod Placing

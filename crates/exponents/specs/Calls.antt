@@ -1,5 +1,5 @@
 -- What `write_exponents_grouped` and `read_exponents_grouped` answer and leave (document 01, "When a call is turned back"):
--- the tests in the table's order 2, 10, 4, 6, and for the reader 2, 10, then 7 and 8 as met.
+-- the tests from top to bottom of the table, 2, 10, 4, 6, and for the reader 2, 10, then 7 and 8 as met in bit order.
 use mathlib.Core.Bool.{Bool, true, false, cond, _&&_}
 use mathlib.Core.List.{List, _++_}
 use Prim.Native.Nat.{ℕ, _-_}
@@ -21,14 +21,15 @@ abbrev pub must : Bool → ℕ → Answer → Answer
 must true number answer = answer
 must false number answer = turnedBack number
 
--- what both calls take: an end that a sheet may hold and a span of 1, 2 or 4; a slice of at most 256 entries that reaches to end
+-- what both calls take: "only ends that a sheet may hold; any other is 2", and so is another span than 1, 2 or 4
 abbrev pub inRange : ℕ → ℕ → Bool
 inRange end span = legalEnd end && isSpan span
 
+-- "an end beyond its slice, or another length" than up to 256 entries, "is 10"
 abbrev pub rightLength : ℕ → ℕ → Bool
 rightLength end entries = leb entries 256 && leb end entries
 
--- the writer's answer; size is the output's length in bytes
+-- the writer's answer: 4 for "exponents not shaped", 6 for "a step's bits, longer than the output", which has size bytes; else how many bits
 unfoldable pub exponentsWritten : List ℕ → ℕ → ℕ → ℕ → Answer
 exponentsWritten exp end span size =
     must (inRange end span) refusal.outOfRange (
@@ -37,7 +38,7 @@ exponentsWritten exp end span size =
     must (leb (bytesFor (length (exponentBits span (take end exp)))) size) refusal.noRoom (
     gives (length (exponentBits span (take end exp)))))))
 
--- how many bits were read off these, or the fault
+-- how many of these bits were read, or the fault's number
 unfoldable pub bitsRead : List Bool → Outcome (List ℕ) → Answer
 bitsRead bits (ok exps rest) = gives (length bits - length rest)
 bitsRead bits (fault number) = turnedBack number
@@ -49,7 +50,7 @@ exponentsRead bits end span entries =
     must (rightLength end entries) refusal.wrongLength (
     bitsRead bits (readExponents end span bits)))
 
--- so many entries: the exponents, and 0 from their end on; all 0 after a fault
+-- n entries: the exponents, and from end on, as document 01 says of every buffer, 0; all 0 after a fault
 unfoldable pub entriesOf : ℕ → Outcome (List ℕ) → List ℕ
 entriesOf n (ok exps rest) = exps ++ replicate (n - length exps) 0
 entriesOf n (fault number) = replicate n 0

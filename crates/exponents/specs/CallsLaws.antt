@@ -7,12 +7,13 @@ use native.Mathlib.Omega.{arith}
 use lib.ListN.{length, take, drop, replicate, length-append, take-append-drop}
 use Rattle.bits.specs.Answer.{gives}
 use Rattle.bits.specs.Reading.{Outcome, ok, then, Came}
+use Rattle.bits.specs.Tests.{both}
 use Rattle.bits.specs.declared.read.ReadEnd.{ReadEnd}
 use Rattle.shaping.specs.Shaped.{Shaped}
 use Rattle.sheet.specs.Ranges.{legalEnd}
 use Rattle.shaping.specs.Passes.{isSpan}
 use Rattle.exponents.specs.Groups.{groupCount, exponentBits}
-use Rattle.exponents.specs.GroupsLaws.{both, length-exponentBits}
+use Rattle.exponents.specs.GroupsLaws.{length-exponentBits}
 use Rattle.exponents.specs.Reading.{readExponents}
 use Rattle.exponents.specs.ReadingLaws.{reads-exponents}
 use Rattle.exponents.specs.Calls.{inRange, rightLength, bitsRead, exponentsRead, entriesOf, exponentsLeft}

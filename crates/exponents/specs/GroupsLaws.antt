@@ -1,87 +1,42 @@
 -- Laws of exponent sets: how many groups and bits there are, and what the coded exponents of a shaped set are.
-use mathlib.Core.Path.{_≡_, refl, sym, ap}
-use mathlib.Core.Bool.{Bool, true, false, _&&_, _||_, true≢false}
+use mathlib.Core.Path.{_≡_, ap}
+use mathlib.Core.Bool.{true}
 use mathlib.Core.List.{List, [], _∷_}
-use mathlib.Core.Logic.{_⊎_, inl, inr, ⊎-elim}
 use Prim.Native.Nat.{ℕ, zero, suc, _+_, _-_, _*_, _/_, _%_, _≤_, _<_}
 use native.Mathlib.Nat.{zero-mul, suc-mul}
 use native.Mathlib.Decide.{decLt}
 use native.Mathlib.Omega.{arith}
-use lib.Dec.{eqb, leb}
 use lib.ListN.{length, take, drop, getD, replicate, length-append, drop-of-length-le, List·getD-eq-default}
 use lib.Seq.{drop-cons, drop-drop}
-use borrow.Author.Tests.{leb-true, eqb-true}
-use Rattle.bits.specs.Field.{field}
 use Rattle.bits.specs.FieldLaws.{length-field}
 use Rattle.bits.specs.PartsLaws.{joined-length}
-use Rattle.shaping.specs.Shaped.{Follows, Shaped}
-use Rattle.sheet.specs.Ranges.{fullEnd, legalEnd}
+use Rattle.shaping.specs.GroupsLaws.{by-span, groups-are}
 use Rattle.shaping.specs.Passes.{isSpan}
-use Rattle.exponents.specs.ShapedLaws.{Near, first-low, follows-run}
-use Rattle.exponents.specs.Groups.{spanCount, groupCount, codedAt, deltaAt, groupAt, exponentBits}
-
--- ---- what a legal end and span are in numbers
-
-pub both : (a b : Bool) → (a && b) ≡ true → (a ≡ true) × (b ≡ true)
-both true b h = (refl, h)
-both false b h = absurd (true≢false (sym h))
-
-either : (a b : Bool) → (a || b) ≡ true → (a ≡ true) ⊎ (b ≡ true)
-either true b h = inl refl
-either false b h = inr h
-
-pub record EndNumbers (end : ℕ) : Type 0 where
-  pub low : 7 ≤ end
-  pub high : end ≤ 253
-  pub thirds : (end - 1) % 3 ≡ 0
-
-pub end-numbers : (end : ℕ) → legalEnd end ≡ true → EndNumbers end
-end-numbers end h = ⊎-elim lfe full (either (eqb end 7) _ h)
-  where
-    lfe : eqb end 7 ≡ true → EndNumbers end
-    lfe e = let q : end ≡ 7 = eqb-true end 7 e in record { low = omega arith; high = omega arith; thirds = omega arith }
-
-    full : fullEnd end ≡ true → EndNumbers end
-    full e =
-        let a = both (leb 37 end && leb end 253) _ e in
-        let b = both (leb 37 end) _ (a .0) in
-        record { low = omega (arith, leb-true 37 end (b .0)); high = leb-true end 253 (b .1); thirds = eqb-true ((end - 1) % 3) 0 (a .1) }
-
-pub span-is : (span : ℕ) → isSpan span ≡ true → (span ≡ 1) ⊎ ((span ≡ 2) ⊎ (span ≡ 4))
-span-is span h =
-    ⊎-elim (λ e. inl (eqb-true span 1 e))
-    (λ r. ⊎-elim (λ e. inr (inl (eqb-true span 2 e))) (λ e. inr (inr (eqb-true span 4 e))) (either (eqb span 2) _ r))
-    (either (eqb span 1) _ h)
-
--- a fact of the three spans
-by-span : (P : ℕ → Type 0) → P 1 → P 2 → P 4 → (span : ℕ) → isSpan span ≡ true → P span
-by-span P a b d span h =
-    ⊎-elim (λ e. rw e a) (λ r. ⊎-elim (λ e. rw e b) (λ e. rw e d) r) (span-is span h)
-
-pub span-wide : (span : ℕ) → isSpan span ≡ true → (0 < span) × (span ≤ 4)
-span-wide span h = by-span (λ s. (0 < s) × (s ≤ 4)) (omega arith) (omega arith) (omega arith) span h
+use Rattle.shaping.specs.Shaped.{Follows, Shaped}
+use Rattle.sheet.specs.Ranges.{legalEnd}
+use Rattle.sheet.specs.RangesLaws.{end-bounds}
+use Rattle.exponents.specs.Groups.{spanCount, groupCount, codedAt, deltaAt, groupAt, groupBits, exponentBits, Near}
+use Rattle.exponents.specs.ShapedLaws.{first-low, follows-run}
 
 -- ---- how many groups
 
 -- a third of the spans coded after the absolute value, rounded up
 pub count-thirds : (end span : ℕ) → legalEnd end ≡ true → isSpan span ≡ true → groupCount end span ≡ (spanCount end span + 2) / 3
 unfolding groupCount
-count-thirds end span e s =
-    let n = end-numbers end e in
-    by-span (λ span. groupCount end span ≡ (spanCount end span + 2) / 3) (omega arith) (omega arith) (omega arith) span s
+count-thirds end span e s = groups-are end span (end-bounds end e .thirds) s
 
 -- the groups reach to end, and there are at most 84
 pub count-reaches : (end span : ℕ) → legalEnd end ≡ true → isSpan span ≡ true → (end ≤ 1 + 3 * groupCount end span * span) × (groupCount end span ≤ 84)
 unfolding groupCount
 count-reaches end span e s =
-    let n = end-numbers end e in
+    let n = end-bounds end e in
     by-span (λ span. (end ≤ 1 + 3 * groupCount end span * span) × (groupCount end span ≤ 84)) (omega arith) (omega arith) (omega arith) span s
 
 -- each group has a span below end
 pub count-inside : (end span g : ℕ) → legalEnd end ≡ true → isSpan span ≡ true → g < groupCount end span → 1 + 3 * g * span < end
 unfolding groupCount
 count-inside end span g e s h =
-    let n = end-numbers end e in
+    let n = end-bounds end e in
     by-span (λ span. g < groupCount end span → 1 + 3 * g * span < end) (λ h. omega arith) (λ h. omega arith) (λ h. omega arith) span s h
 
 -- 4 bits, and 7 for each group
@@ -89,7 +44,7 @@ pub length-exponentBits : (span : ℕ) (exps : List ℕ) → length (exponentBit
 unfolding exponentBits
 length-exponentBits span exps =
     rw (length-append, length-field)
-    (ap (λ (n : ℕ). 4 + n) (joined-length 7 (λ g. field 7 (groupAt span exps (3 * g))) (groupCount (length exps) span) (λ g h. length-field 7 _)))
+    (ap (λ (n : ℕ). 4 + n) (joined-length 7 (groupBits span exps) (groupCount (length exps) span) (λ g h. length-field 7 _)))
 
 -- ---- the coded exponents of a shaped set
 

@@ -1,57 +1,29 @@
--- Whatever is read is shaped for its span (so each exponent is 0..24), has end entries, and takes 4 bits and 7 for each group.
-use mathlib.Core.Path.{_≡_, refl, sym, ap, _∙_}
+-- Laws of what is read, whatever the bits are: it is shaped for its span, each exponent is 0..24, there are end of them, and they took
+-- 4 bits and 7 for each group.
+use mathlib.Core.Path.{_≡_, refl, ap, _∙_}
 use mathlib.Core.Bool.{Bool, true, false, cond}
 use mathlib.Core.List.{List, [], _∷_, _++_}
 use mathlib.Core.Option.{Option, none, some}
-use Prim.Native.Nat.{ℕ, zero, suc, _+_, _-_, _*_, _/_, _%_, _^_, _≤_, _<_, min}
+use Prim.Native.Nat.{ℕ, zero, suc, _+_, _-_, _*_, _/_, _%_, _≤_, _<_, min}
 use native.Mathlib.Nat.{zero-mul, suc-mul}
 use native.Mathlib.Decide.{decLt, decLe}
 use native.Mathlib.Omega.{arith}
 use lib.Dec.{leb}
-use lib.ListN.{length, replicate, length-append, length-drop, length-replicate}
+use lib.ListN.{length, getD, replicate, length-append, length-replicate}
 use borrow.Author.Tests.{leb-true}
-use Rattle.bits.specs.Field.{readField}
-use Rattle.bits.specs.ReadLaws.{field-read}
-use Rattle.bits.specs.Reading.{Outcome, ok, fault, then, orPast, readBits, steps}
+use Rattle.bits.specs.Reading.{ok, readBits}
+use Rattle.bits.specs.ReadingLaws.{then-ok, steps-keep, bits-read}
+use Rattle.shaping.specs.GroupsLaws.{span-bounds}
 use Rattle.shaping.specs.Shaped.{Shaped}
+use Rattle.shaping.specs.ShapedLaws.{shaped-at-most}
 use Rattle.sheet.specs.Ranges.{legalEnd}
+use Rattle.sheet.specs.RangesLaws.{end-bounds}
 use Rattle.shaping.specs.Passes.{isSpan}
 use Rattle.exponents.specs.Groups.{groupCount}
-use Rattle.exponents.specs.GroupsLaws.{span-wide, count-reaches, end-numbers}
+use Rattle.exponents.specs.GroupsLaws.{count-reaches}
 use Rattle.exponents.specs.ShapedLaws.{shaped-append}
 use Rattle.exponents.specs.Reading.{last, withSpan, onSome, withGroup, orBadGroup, readGroup, readGroups, readExponents}
 use Rattle.exponents.specs.ReadingLaws.{span-pad, span-good, span-below, span-above}
-
--- ---- reading in general
-
--- a fact that each turn keeps holds at the end
-pub steps-keep : {S : Type 0} (P : ℕ → S → List Bool → Type 0) (f : ℕ → S → List Bool → Outcome S)
-    → ((i : ℕ) (s s' : S) (bits rest : List Bool) → P i s bits → f i s bits ≡ ok s' rest → P (suc i) s' rest)
-    → (k : ℕ) (s s' : S) (bits rest : List Bool) → P 0 s bits → steps f k s bits ≡ ok s' rest → P k s' rest
-unfolding steps
-steps-keep P f h zero s s' bits rest p e =
-    let a : s ≡ s' = cc in
-    let b : bits ≡ rest = cc in
-    rw (← a, ← b) p
-steps-keep {S} P f h (suc k) s s' bits rest p e = go (steps f k s bits) (λ t u q. steps-keep P f h k s t bits u p q) refl e
-  where
-    go : (o : Outcome S) → ((t : S) (u : List Bool) → steps f k s bits ≡ ok t u → P k t u) → steps f k s bits ≡ o → then o (f k) ≡ ok s' rest → P (suc k) s' rest
-    go (ok t u) known q r = h k t s' u rest (known t u q) r
-    go (fault n) known q r = let z : _≡_ {A = ℕ} 0 1 = cc in absurd (omega arith)
-
--- a field that was read: its value fits its width, and the bits after it are fewer by that
-pub bits-read : (n : ℕ) (bits : List Bool) (v : ℕ) (rest : List Bool) → readBits n bits ≡ ok v rest → (length bits ≡ n + length rest) × (v < 2 ^ n)
-unfolding readBits orPast
-bits-read n bits v rest e = go (readField n bits) refl e
-  where
-    go : (o : Option (ℕ × List Bool)) → readField n bits ≡ o → orPast o ≡ ok v rest → (length bits ≡ n + length rest) × (v < 2 ^ n)
-    go none q h = let z : _≡_ {A = ℕ} 0 1 = cc in absurd (omega arith)
-    go (some p) q h =
-        let a : p .0 ≡ v = cc in
-        let b : p .1 ≡ rest = cc in
-        let f = field-read n bits (p .0) (p .1) q in
-        let l : length rest ≡ length bits - n = ap length (sym b ∙ f .left) ∙ length-drop n bits in
-        (omega (arith, f .there), rw (← a) (f .fits))
 
 -- ---- span by span
 
@@ -109,7 +81,7 @@ module _ (end span : ℕ) (w : 0 < span) where
       → SoFar end span (3 * g) exps × (total ≡ 7 * g + length bits) → readGroup end span g exps bits ≡ ok more rest
       → SoFar end span (3 * suc g) more × (total ≡ 7 * suc g + length rest)
   unfolding readGroup orBadGroup
-  turn-kept total g exps more bits rest p e = go (readBits 7 bits) refl e
+  turn-kept total g exps more bits rest p e = then-ok (readBits 7 bits) _ more rest e (λ v u q h. of-group v u (withGroup end span v exps) refl q h)
     where
       of-group : (v : ℕ) (u : List Bool) (o : Option (List ℕ)) → withGroup end span v exps ≡ o → readBits 7 bits ≡ ok v u → orBadGroup o u ≡ ok more rest
           → SoFar end span (3 * suc g) more × (total ≡ 7 * suc g + length rest)
@@ -121,15 +93,11 @@ module _ (end span : ℕ) (w : 0 < span) where
           let n : length u ≡ length rest = ap length b in
           (rw k (group-kept (3 * g) v exps more (p .0) (q ∙ ap some a)), omega (arith, p .1, bits-read 7 bits v u r .0))
 
-      go : (o : Outcome ℕ) → readBits 7 bits ≡ o → then o (λ v u. orBadGroup (withGroup end span v exps) u) ≡ ok more rest
-          → SoFar end span (3 * suc g) more × (total ≡ 7 * suc g + length rest)
-      go (ok v u) q h = of-group v u (withGroup end span v exps) refl q h
-      go (fault k) q h = let z : _≡_ {A = ℕ} 0 1 = cc in absurd (omega arith)
-
 -- ---- the whole set
 
 pub record ExponentsRead (end span : ℕ) (bits : List Bool) (exps : List ℕ) (rest : List Bool) : Type 0 where
   pub shaped : Shaped (span - 1) exps
+  pub most : (i : ℕ) → getD exps i 0 ≤ 24
   pub long : length exps ≡ end
   pub count : length bits ≡ 4 + 7 * groupCount end span + length rest
 
@@ -139,8 +107,8 @@ module _ (end span : ℕ) (e : legalEnd end ≡ true) (s : isSpan span ≡ true)
       → Shaped (span - 1) exps × (length exps ≡ end) × (length bits ≡ 7 * groupCount end span + length rest)
   unfolding readGroups
   groups-read first bits exps rest b h =
-      let w = span-wide span s .0 in
-      let n = end-numbers end e in
+      let w = span-bounds span s .0 in
+      let n = end-bounds end e in
       let r = count-reaches end span e s .0 in
       let start : SoFar end span (3 * 0) (first ∷ []) = record { shaped = (b, tt); long = omega (arith, zero-mul span) } in
       let k = steps-keep (λ g l t. SoFar end span (3 * g) l × (length bits ≡ 7 * g + length t)) (readGroup end span) (turn-kept end span w (length bits)) (groupCount end span) (first ∷ []) exps bits rest (start, omega arith) h in
@@ -148,11 +116,8 @@ module _ (end span : ℕ) (e : legalEnd end ≡ true) (s : isSpan span ≡ true)
 
   pub exponents-read : (bits : List Bool) (exps : List ℕ) (rest : List Bool) → readExponents end span bits ≡ ok exps rest → ExponentsRead end span bits exps rest
   unfolding readExponents
-  exponents-read bits exps rest h = go (readBits 4 bits) refl h
-    where
-      go : (o : Outcome ℕ) → readBits 4 bits ≡ o → then o (readGroups end span) ≡ ok exps rest → ExponentsRead end span bits exps rest
-      go (ok v u) q h =
-          let f = bits-read 4 bits v u q in
-          let g = groups-read v u exps rest (omega (arith, f .1)) h in
-          record { shaped = g .0; long = g .1; count = omega (arith, f .0, g .2) }
-      go (fault k) q h = let z : _≡_ {A = ℕ} 0 1 = cc in absurd (omega arith)
+  exponents-read bits exps rest h =
+      then-ok (readBits 4 bits) (readGroups end span) exps rest h (λ v u q k.
+      let f = bits-read 4 bits v u q in
+      let g = groups-read v u exps rest (omega (arith, f .1)) k in
+      record { shaped = g .0; most = shaped-at-most (span - 1) exps (g .0); long = g .1; count = omega (arith, f .0, g .2) })

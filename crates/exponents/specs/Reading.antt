@@ -1,5 +1,5 @@
--- Reading an exponent set (A/52 7.1.3; document 01: "takes group values 0..124, ignores pad deltas, fills spans up to end").
--- A field is read whole, then judged; a group's differences are judged in order.
+-- Reading an exponent set (A/52 7.1.3; document 01: "The added reader takes group values 0..124, ignores pad deltas, fills spans up to end").
+-- Faults come "as met in bit order": a field is read whole (7 where it runs past the input), then judged (8), a group's differences in order.
 use mathlib.Core.Bool.{Bool, cond, _&&_}
 use mathlib.Core.List.{List, [], _∷_, _++_}
 use mathlib.Core.Option.{Option, none, some}
@@ -33,24 +33,26 @@ withGroup end span v exps =
     (onSome (withSpan end span (v / 25) exps) (λ a. onSome (withSpan end span (v % 25 / 5) a) (λ b. withSpan end span (v % 5) b)))
     none
 
--- what the code has reached: so many exponents of its slice, or none at 0
-abbrev pub reached : ℕ → List ℕ → Option (List ℕ)
-reached zero exp = none
-reached (suc p) exp = some (take (suc p) exp)
-
--- what is none is a fault
+-- what is none is fault 8, "group above 124, or exponent outside 0..24"
 unfoldable pub orBadGroup : Option (List ℕ) → List Bool → Outcome (List ℕ)
 orBadGroup none bits = fault refusal.badGroup
 orBadGroup (some exps) bits = ok exps bits
 
--- the next group
+-- the next group, number g, after the exponents so far
 unfoldable pub readGroup : ℕ → ℕ → ℕ → List ℕ → List Bool → Outcome (List ℕ)
 readGroup end span g exps bits = then (readBits 7 bits) (λ v rest. orBadGroup (withGroup end span v exps) rest)
 
--- the groups, behind the absolute value
+-- the groups, behind the absolute value, which is bin 0's exponent
 unfoldable pub readGroups : ℕ → ℕ → ℕ → List Bool → Outcome (List ℕ)
 readGroups end span first bits = steps (readGroup end span) (groupCount end span) (first ∷ []) bits
 
 -- the set: the exponents of the bins below end
 unfoldable pub readExponents : ℕ → ℕ → List Bool → Outcome (List ℕ)
 readExponents end span bits = then (readBits 4 bits) (readGroups end span)
+
+-- ---- for the code that fills the slice
+
+-- what the code has reached: so many exponents of its slice, or none at 0
+abbrev pub reached : ℕ → List ℕ → Option (List ℕ)
+reached zero exp = none
+reached (suc p) exp = some (take (suc p) exp)

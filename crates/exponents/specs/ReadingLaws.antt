@@ -10,14 +10,15 @@ use native.Mathlib.Omega.{arith}
 use lib.ListN.{length, take, drop, getD, replicate, length-take, length-drop, getD-replicate}
 use lib.Seq.{take-add, take-all, getD-take, getD-drop, length-take-le}
 use borrow.Author.Tests.{le-leb, lt-leb}
-use Rattle.bits.specs.Field.{field}
 use Rattle.bits.specs.Reading.{Reads}
 use Rattle.bits.specs.ReadingLaws.{reads-bits, reads-then, reads-steps, reads-same}
+use Rattle.shaping.specs.GroupsLaws.{span-bounds}
 use Rattle.shaping.specs.Shaped.{Shaped}
 use Rattle.sheet.specs.Ranges.{legalEnd}
+use Rattle.sheet.specs.RangesLaws.{end-bounds}
 use Rattle.shaping.specs.Passes.{isSpan}
-use Rattle.exponents.specs.Groups.{groupCount, codedAt, deltaAt, groupAt, exponentBits}
-use Rattle.exponents.specs.GroupsLaws.{shaped-span, group-parts, span-wide, count-reaches, end-numbers}
+use Rattle.exponents.specs.Groups.{groupCount, codedAt, deltaAt, groupAt, groupBits, exponentBits}
+use Rattle.exponents.specs.GroupsLaws.{shaped-span, group-parts, count-reaches}
 use Rattle.exponents.specs.ShapedLaws.{first-low}
 use Rattle.exponents.specs.Reading.{last, withSpan, withGroup, orBadGroup, readGroup, readGroups, readExponents}
 
@@ -91,7 +92,7 @@ module _ (span : ℕ) (exps : List ℕ) (w : 0 < span) (f : Shaped (span - 1) ex
       let g = group-parts span exps w f s in
       rw (le-leb (groupAt span exps s) 124 (g .0), g .1, g .2, g .3, span-back s, span-back (suc s), span-back (suc (suc s)))
 
-  reads-group : (g : ℕ) → Reads (readGroup (length exps) span g (take (1 + 3 * g * span) exps)) (field 7 (groupAt span exps (3 * g))) (take (1 + 3 * suc g * span) exps)
+  reads-group : (g : ℕ) → Reads (readGroup (length exps) span g (take (1 + 3 * g * span) exps)) (groupBits span exps g) (take (1 + 3 * suc g * span) exps)
   unfolding readGroup orBadGroup
   reads-group g =
       let e : 3 * suc g ≡ suc (suc (suc (3 * g))) = omega arith in
@@ -108,13 +109,13 @@ pub reads-exponents : (span : ℕ) (exps : List ℕ) → legalEnd (length exps) 
 unfolding readExponents exponentBits readGroups
 reads-exponents span exps e s f =
     let end = length exps in
-    let w = span-wide span s .0 in
+    let w = span-bounds span s .0 in
     let r = count-reaches end span e s .0 in
     let n : 1 + 3 * 0 * span ≡ 1 = omega (arith, zero-mul span) in
-    let first : take (1 + 3 * 0 * span) exps ≡ getD exps 0 0 ∷ [] = rw n (take-one exps (omega (arith, end-numbers end e))) in
+    let first : take (1 + 3 * 0 * span) exps ≡ getD exps 0 0 ∷ [] = rw n (take-one exps (omega (arith, end-bounds end e))) in
     let all : take (1 + 3 * groupCount end span * span) exps ≡ exps = take-all _ exps r in
     reads-then _ (reads-bits 4 (getD exps 0 0) (omega (arith, first-low (span - 1) exps f)))
-    (rw (first, all) at (reads-steps (readGroup end span) (λ g. field 7 (groupAt span exps (3 * g))) (λ g. take (1 + 3 * g * span) exps) (groupCount end span) (λ g l. reads-group span exps w f g)))
+    (rw (first, all) at (reads-steps (readGroup end span) (groupBits span exps) (λ g. take (1 + 3 * g * span) exps) (groupCount end span) (λ g l. reads-group span exps w f g)))
 
 -- one reading only: sets whose bits begin alike are the same
 pub exponents-same : (span : ℕ) (xs ys : List ℕ) (u v : List Bool) → legalEnd (length xs) ≡ true → isSpan span ≡ true → length xs ≡ length ys

@@ -1,4 +1,5 @@
--- Laws of shaped exponents (document 01, "Exponents"): their bounds, a span taken off the front, and a span put behind.
+-- Laws of shaped exponents (document 01, "Exponents") as a set codes them: the absolute value, a span taken off the front, and a span put
+-- behind.
 use mathlib.Core.Path.{_≡_, refl, ap}
 use mathlib.Core.List.{List, [], _∷_, _++_}
 use Prim.Native.Nat.{ℕ, zero, suc, _+_, _-_, _*_, _≤_, _<_}
@@ -6,26 +7,13 @@ use native.Mathlib.Nat.{zero-mul, suc-mul}
 use native.Mathlib.Omega.{arith}
 use lib.ListN.{length, take, drop, getD, replicate}
 use Rattle.shaping.specs.Shaped.{Follows, Shaped}
+use Rattle.exponents.specs.Groups.{Near}
 use Rattle.exponents.specs.Reading.{last}
 
--- ---- bounds
-
+-- the absolute value fits its 4 bits
 pub first-low : (h : ℕ) (exps : List ℕ) → Shaped h exps → getD exps 0 0 ≤ 15
 first-low h [] f = omega arith
 first-low h (x ∷ r) f = f .0
-
-follows-low : (h j p : ℕ) (xs : List ℕ) → p ≤ 24 → Follows h j p xs → (i : ℕ) → getD xs i 0 ≤ 24
-follows-low h j p [] b f i = omega arith
-follows-low h zero p (x ∷ r) b f zero = f .2
-follows-low h zero p (x ∷ r) b f (suc i) = follows-low h h x r (f .2) (f .3) i
-follows-low h (suc j) p (x ∷ r) b f zero = omega (arith, f .0)
-follows-low h (suc j) p (x ∷ r) b f (suc i) = follows-low h j p r b (f .1) i
-
--- each exponent is at most 24
-pub shaped-low : (h : ℕ) (exps : List ℕ) → Shaped h exps → (i : ℕ) → getD exps i 0 ≤ 24
-shaped-low h [] f i = omega arith
-shaped-low h (x ∷ r) f zero = omega (arith, f .0)
-shaped-low h (x ∷ r) f (suc i) = follows-low h 0 x r (omega (arith, f .0)) (f .1) i
 
 -- ---- a span taken off
 
@@ -38,10 +26,6 @@ follows-run h (suc j) p (x ∷ r) f =
     (rw (f .0) (ap (λ (l : List ℕ). p ∷ l) (i .0)), i .1)
 
 -- ---- a span put behind
-
--- e may follow p
-abbrev pub Near : ℕ → ℕ → Type 0
-Near p e = (e ≤ p + 2) × (p ≤ e + 2) × (e ≤ 24)
 
 follows-same : (h j e n : ℕ) → n ≤ j → Follows h j e (replicate n e)
 follows-same h zero e zero l = tt

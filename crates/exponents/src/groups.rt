@@ -5,8 +5,7 @@ ghost use Prim.Native.Nat.{_+_, _-_, _*_, _≤_, _<_};
 ghost use lib.ListN.{length, getD, take};
 ghost use Rattle.shaping.specs.Shaped.{Shaped};
 ghost use Rattle.shaping.specs.Passes.{isSpan};
-ghost use Rattle.exponents.specs.Groups.{Coded, groupAt, groupCount};
-ghost use Rattle.exponents.specs.ShapedLaws.{Near};
+ghost use Rattle.exponents.specs.Groups.{delta, group, Coded, groupAt, groupCount, Near};
 
 // How many groups follow the absolute value, at the ends that a sheet may hold.
 pub fn group_count(end: usize, grpsize: usize) -> usize
@@ -41,15 +40,28 @@ fn span_at(exp: &[u8], p: usize, end: usize, before: u8) -> CodedSpan
     }
 }
 
-// The group number `i`: the three spans from number 3 * i on.
+// The group of the spans b, c and d after a, none of them a pad:
+// 25 * (b + 2 - a) + 5 * (c + 2 - b) + (d + 2 - c), with each exponent counted once.
+fn whole_group(a: u8, b: u8, c: u8, d: u8) -> u32
+    requires { ⌜ Near a b × Near b c × Near c d ⌝ }
+    ensures { λ r. ⌜ r ≡ group (delta a b) (delta b c) (delta c d) ⌝ }
+{
+    62 + 20 * b as u32 + 4 * c as u32 + d as u32 - 25 * a as u32
+}
+
+// The group number `i`: the three spans from number 3 * i on. Only the last group may have pads.
 pub fn group_at(exp: &[u8], end: usize, grpsize: usize, i: usize) -> u32
     requires { ⌜ (isSpan grpsize ≡ true) × (end ≤ length (now exp)) × (end ≤ 253) × (i < 84) × (1 + 3 * i * grpsize < end) ⌝ }
     requires { ⌜ Shaped (grpsize - 1) (take end (now exp)) ⌝ }
     ensures { λ r. ⌜ r ≡ groupAt grpsize (take end (now (exp .entry))) (3 * i) ⌝ }
 {
     let p = 1 + 3 * i * grpsize;
+    let last = p + 2 * grpsize;
+    if last < end {
+        return whole_group(exp[p - 1], exp[p], exp[p + grpsize], exp[last]);
+    }
     let first = span_at(exp, p, end, exp[p - 1]);
     let second = span_at(exp, p + grpsize, end, first.exponent);
-    let third = span_at(exp, p + 2 * grpsize, end, second.exponent);
+    let third = span_at(exp, last, end, second.exponent);
     25 * first.delta + 5 * second.delta + third.delta
 }

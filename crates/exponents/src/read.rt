@@ -22,15 +22,6 @@ ghost use Rattle.shaping.specs.Passes.{isSpan};
 ghost use Rattle.exponents.specs.Reading.{withSpan, withGroup, reached, readGroups, readExponents};
 ghost use Rattle.exponents.specs.Calls.{exponentsRead, exponentsLeft};
 
-// Every entry becomes `v`.
-fn fill(part: &mut [u8], v: u8)
-    ensures { λ _. ⌜ now (part .exit) ≡ replicate (length (now (part .entry))) v ⌝ }
-{
-    for i in 0..part.len() {
-        part[i] = v;
-    }
-}
-
 // Where the span that begins at `p` ends.
 fn span_end(p: usize, end: usize, grpsize: usize) -> usize
     requires { ⌜ (p ≤ end) × (end ≤ 256) × (grpsize ≤ 4) ⌝ }
@@ -62,7 +53,7 @@ fn place_span(exp: &mut [u8], p: usize, grpsize: usize, d: u32) -> usize
         return 0;
     }
     let to = span_end(p, end, grpsize);
-    fill(&mut exp[p..to], (sum - 2) as u8);
+    slices::fill(&mut exp[p..to], (sum - 2) as u8);
     to
 }
 
@@ -155,7 +146,7 @@ pub fn get_exponents(
 {
     let n = exp.len();
     let r = get_set(input, pos, grpsize, &mut exp[0..end]);
-    fill(&mut exp[end..n], 0);
+    slices::fill(&mut exp[end..n], 0);
     r
 }
 
@@ -171,7 +162,7 @@ pub fn read_exponents_grouped(input: &[u8], end: usize, grpsize: usize, exp: &mu
     }
     let r = get_exponents(input, 0, end, grpsize, exp);
     if r.fault != ACCEPTED {
-        fill(exp, 0);
+        slices::fill(exp, 0);
         return bits::refused(r.fault);
     }
     bits::accepted(r.pos as u32)

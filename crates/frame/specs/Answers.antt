@@ -1,4 +1,5 @@
--- What the frame's calls answer and leave (document 01, "When a call is turned back"): the tests in the table's order.
+-- What the frame's calls answer and leave (document 01, "When a call is turned back"): the tests in the table's order, each with the
+-- number that it gives (named in bits/specs/Refusal.antt).
 use Prim.Native.Nat.{ℕ, _-_}
 use mathlib.Core.Bool.{Bool, not, cond, _&&_}
 use mathlib.Core.List.{List, _++_}
@@ -36,12 +37,13 @@ must test number answer = cond test answer (turnedBack number)
 abbrev pub sheetFirst : List ℕ → FrameAnswer → FrameAnswer
 sheetFirst sheet answer = must (eqb (checkOf sheet) refusal.accepted) (checkOf sheet) answer
 
--- the bits fit an output of so many bytes, with the zero bits to the byte
+-- the bits, with the zero bits to the byte, are not longer than an output of so many bytes; else cause 6
 abbrev pub hasRoom : ℕ → List Bool → Bool
 hasRoom size bits = not (ltb size (bytesFor (length bits)))
 
--- ---- the second entry: 1, 2, 10, 4, 5, 6; size is the output's length in bytes
+-- ---- the second entry: 1, 2, 10, 4, 5, 6
 
+-- `size` is the output's length in bytes
 unfoldable pub writeAnswer : List ℕ → List ℕ → List ℕ → ℕ → FrameAnswer
 writeAnswer sheet exps codes size =
     sheetFirst sheet (
@@ -57,15 +59,16 @@ bodyLeft a bits out = cond (eqb (a .refusal) refusal.accepted) (stored bits out)
 
 -- ---- the reader: 1, 2, 10, then 7, 8, 9 as met
 
--- the counts and the bits that a reading took, or its fault
+-- the counts and how many bits were read, or the fault that was met
 unfoldable pub readingOf : List Bool → Outcome Frame → FrameAnswer
 readingOf bits (ok frame rest) = gives (frame .exponentBits ++ frame .mantissaBits) (length bits - length rest)
 readingOf bits (fault number) = turnedBack number
 
--- the lengths of the buffers for exponents, bap and codes
+-- the buffers for exponents, bap and codes have the sheet's length
 abbrev pub readable : List ℕ → ℕ → ℕ → ℕ → Bool
 readable sheet exps bap codes = fits sheet exps && fits sheet bap && fits sheet codes
 
+-- `exps`, `bap` and `codes` are the buffers' lengths
 unfoldable pub readAnswer : List ℕ → List Bool → ℕ → ℕ → ℕ → FrameAnswer
 readAnswer sheet bits exps bap codes =
     sheetFirst sheet (
@@ -77,9 +80,10 @@ unfoldable pub readInto : (Frame → List ℕ) → ℕ → Outcome Frame → Lis
 readInto part n (ok frame rest) = part frame
 readInto part n (fault number) = replicate n 0
 
--- a buffer afterwards; `reached` says whether the reading was begun, that is, neither 1 nor 2 nor 10 was given
-unfoldable pub readLeft : Bool → (Frame → List ℕ) → Outcome Frame → List ℕ → List ℕ
-readLeft reached part outcome before = cond reached (readInto part (length before) outcome) before
-
+-- whether the reading is begun: neither 1 nor 2 nor 10 is given
 abbrev pub reached : List ℕ → ℕ → ℕ → ℕ → Bool
 reached sheet exps bap codes = eqb (checkOf sheet) refusal.accepted && readable sheet exps bap codes
+
+-- a buffer afterwards: as it was where the reading is not begun
+unfoldable pub readLeft : Bool → (Frame → List ℕ) → Outcome Frame → List ℕ → List ℕ
+readLeft begun part outcome before = cond begun (readInto part (length before) outcome) before

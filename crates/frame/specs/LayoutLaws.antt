@@ -1,18 +1,21 @@
--- Laws of a frame's rows and parts: their lengths, the parts of a row that is put together, and that an allocation looks below the end only.
-use Prim.Native.Nat.{ℕ, _-_, _*_, _≤_, _<_}
-use mathlib.Core.Path.{_≡_, sym, ap, _∙_}
-use mathlib.Core.List.{List, _++_}
+-- Laws of a frame's rows and parts: their lengths, the parts of a row that is put together, where a part starts, and that an allocation
+-- looks below the end only.
+use Prim.Native.Nat.{ℕ, zero, suc, _+_, _-_, _*_, _≤_, _<_}
+use mathlib.Core.Path.{_≡_, refl, sym, ap, _∙_}
+use mathlib.Core.List.{List, [], _∷_, _++_}
+use native.Mathlib.Nat.{mul-add, mul-assoc}
 use native.Mathlib.Omega.{arith}
-use lib.ListN.{length, take, getD, replicate, length-append, length-replicate}
-use lib.Seq.{length-take-le, take-at, getD-take}
-use Rattle.bits.specs.Parts.{piece}
+use lib.ListN.{length, take, drop, getD, replicate, length-append, length-replicate}
+use lib.Seq.{length-take-le, take-at, take-take, drop-drop, getD-take}
+use Rattle.bits.specs.Parts.{joined, piece}
 use Rattle.bits.specs.PartsLaws.{joined-cong, joined-length, piece-joined, length-piece, within}
 use Rattle.allocation.specs.AllocationLaws.{length-allocated, allocated-same}
 use Rattle.bits.specs.Refusal as refusal
 use Rattle.sheet.specs.Common.{commonOf}
+use Rattle.sheet.specs.Layout.{partStart}
 use Rattle.sheet.specs.Record.{recordOf}
 use Rattle.sheet.specs.Sheet.{checkOf}
-use Rattle.frame.specs.Layout.{channels, endAt, rowOf, clean, cleanRow}
+use Rattle.frame.specs.Layout.{channels, endAt, rowOf, clean, cleanRow, SameBelowEnds}
 use Rattle.frame.specs.Body.{bapPart, bapRow}
 use Rattle.frame.specs.Under.{channel-known}
 
@@ -32,17 +35,9 @@ pub clean-clean : (end : ℕ) (part : List ℕ) → end ≤ length part → clea
 unfolding clean
 clean-clean end part h = ap (λ (l : List ℕ). l ++ replicate (256 - end) 0) (take-clean end part h)
 
--- a part depends on what stands below end
-pub clean-same : (end : ℕ) (part other : List ℕ) → take end part ≡ take end other → clean end part ≡ clean end other
-unfolding clean
-clean-same end part other e = ap (λ (l : List ℕ). l ++ replicate (256 - end) 0) e
-
 pub length-bapPart : (sheet : List ℕ) (c : ℕ) (part : List ℕ) → length (bapPart sheet c part) ≡ 256
 unfolding bapPart
 length-bapPart sheet c part = length-allocated (commonOf sheet) (recordOf sheet c) (endAt sheet c) part 256
-
-taken-at : (end i : ℕ) (l : List ℕ) → i < end → getD (take end l) i 0 ≡ getD l i 0
-taken-at end i l h = getD-take end l i 0 h
 
 -- the allocation depends on the exponents below end only
 pub bapPart-same : (sheet : List ℕ) (c : ℕ) (part other : List ℕ) → take (endAt sheet c) part ≡ take (endAt sheet c) other
@@ -50,7 +45,7 @@ pub bapPart-same : (sheet : List ℕ) (c : ℕ) (part other : List ℕ) → take
 unfolding bapPart
 bapPart-same sheet c part other e =
     allocated-same (commonOf sheet) (recordOf sheet c) (endAt sheet c) part other 256
-    (λ i h. sym (taken-at (endAt sheet c) i part h) ∙ ap (λ (l : List ℕ). getD l i 0) e ∙ taken-at (endAt sheet c) i other h)
+    (λ i h. sym (getD-take (endAt sheet c) part i 0 h) ∙ ap (λ (l : List ℕ). getD l i 0) e ∙ getD-take (endAt sheet c) other i 0 h)
 
 -- ---- rows
 
@@ -62,7 +57,7 @@ pub piece-bap : (sheet row : List ℕ) (c : ℕ) → c < channels sheet → piec
 unfolding bapRow
 piece-bap sheet row c h = piece-joined 256 _ (channels sheet) c (λ j l. length-bapPart sheet j _) h
 
--- a row of an accepted sheet has C parts
+-- a row has C parts of 256 entries
 pub length-part : (sheet row : List ℕ) (c : ℕ) → length row ≡ 256 * channels sheet → c < channels sheet → length (piece 256 c row) ≡ 256
 length-part sheet row c e h = length-piece 256 c row (omega (arith, within 256 c (channels sheet) h))
 
@@ -94,3 +89,46 @@ module _ (sheet : List ℕ) (accepted : checkOf sheet ≡ refusal.accepted) (row
 pub length-row : (sheet l : List ℕ) (b : ℕ) → length l ≡ 256 * channels sheet * 6 → b < 6 → length (rowOf sheet b l) ≡ 256 * channels sheet
 unfolding rowOf
 length-row sheet l b e h = length-piece (256 * channels sheet) b l (omega (arith, within (256 * channels sheet) b 6 h))
+
+-- ---- a whole buffer
+
+-- what is within the front of a list is within the list
+part-of-front : (n i k : ℕ) (l : List ℕ) → i + k ≤ n → take k (drop i (take n l)) ≡ take k (drop i l)
+part-of-front n zero k l h = take-take k n l (omega arith)
+part-of-front zero (suc i) k l h = absurd (omega arith)
+part-of-front (suc n) (suc i) k [] h = refl
+part-of-front (suc n) (suc i) k (x ∷ l) h = part-of-front n i k l (omega arith)
+
+-- a channel's part starts at 256 × (C × block + channel) (document 01, "The track sheet")
+pub part-starts : (sheet l : List ℕ) (b c : ℕ) → c < channels sheet → piece 256 c (rowOf sheet b l) ≡ take 256 (drop (partStart (channels sheet) b c) l)
+unfolding rowOf piece
+part-starts sheet l b c h =
+    let n = channels sheet in
+    let start : 256 * n * b + 256 * c ≡ 256 * (n * b + c) = omega (arith, mul-assoc 256 n b, mul-add 256 (n * b) c) in
+    part-of-front (256 * n) (256 * c) 256 (drop (256 * n * b) l) (within 256 c n h)
+    ∙ ap (take 256) (drop-drop (256 * c) (256 * n * b) l ∙ ap (λ (k : ℕ). drop k l) start)
+
+-- two buffers whose blocks are the same as they are compared
+module _ (sheet l other : List ℕ) (accepted : checkOf sheet ≡ refusal.accepted) (long : length l ≡ 256 * channels sheet * 6)
+    (long' : length other ≡ 256 * channels sheet * 6)
+    (e : joined 6 (λ b. cleanRow sheet (rowOf sheet b l)) ≡ joined 6 (λ b. cleanRow sheet (rowOf sheet b other))) where
+  clean-row-of : (m : List ℕ) → length m ≡ 256 * channels sheet * 6 → (b : ℕ) → b < 6
+      → piece (256 * channels sheet) b (joined 6 (λ j. cleanRow sheet (rowOf sheet j m))) ≡ cleanRow sheet (rowOf sheet b m)
+  clean-row-of m n b h =
+      piece-joined (256 * channels sheet) (λ j. cleanRow sheet (rowOf sheet j m)) 6 b
+      (λ j k. length-cleanRow sheet accepted (rowOf sheet j m) (length-row sheet m j n k)) h
+
+  clean-part-of : (m : List ℕ) → length m ≡ 256 * channels sheet * 6 → (b c : ℕ) → b < 6 → c < channels sheet
+      → take (endAt sheet c) (piece 256 c (cleanRow sheet (rowOf sheet b m))) ≡ take (endAt sheet c) (piece 256 c (rowOf sheet b m))
+  clean-part-of m n b c h k =
+      let row = rowOf sheet b m in
+      let whole = length-row sheet m b n h in
+      ap (take (endAt sheet c)) (piece-clean sheet accepted row whole c k) ∙ take-clean (endAt sheet c) (piece 256 c row) (end-inside sheet accepted row whole c k)
+
+  pub same-below-ends : SameBelowEnds sheet l other
+  same-below-ends =
+      record {
+        part = λ b c h k.
+            let row = sym (clean-row-of l long b h) ∙ ap (piece (256 * channels sheet) b) e ∙ clean-row-of other long' b h in
+            sym (clean-part-of l long b c h k) ∙ ap (λ (r : List ℕ). take (endAt sheet c) (piece 256 c r)) row ∙ clean-part-of other long' b c h k;
+      }

@@ -1,5 +1,5 @@
--- The frames that a body can hold under an accepted sheet (document 01, causes 4 and 5): each new set shaped for its strategy, each
--- reuse block's exponents those of the block before, below end; each code one of its bap's.
+-- The frames that a body can hold under an accepted sheet (document 01, "When a call is turned back", causes 4 and 5): each new set shaped
+-- for its strategy, each reuse block's exponents those of the block before, below end; each code one of its bap's.
 use Prim.Native.Nat.{ℕ, zero, suc, _-_}
 use mathlib.Core.Path.{_≡_}
 use mathlib.Core.Bool.{Bool, true, false, cond}
@@ -21,23 +21,25 @@ alike [] (y ∷ ys) = false
 alike (x ∷ xs) [] = false
 alike (x ∷ xs) (y ∷ ys) = cond (eqb x y) (alike xs ys) false
 
--- a channel's part of a block, after the part `old` of the block before
+-- a channel's exponents in a block, below end: those of the block before (`old`) where it is reuse, else shaped for the strategy's span,
+-- which `shapedFor` is given less 1
 unfoldable pub partLegal : ℕ → ℕ → List ℕ → List ℕ → Bool
 partLegal zero end old part = alike (take end old) (take end part)
 partLegal (suc s) end old part = shapedFor (spanFor (suc s) - 1) (take end part)
 
--- the exponents of block b, after the row `old`
+-- the exponents of block b, after the row `old` of the block before
 unfoldable pub rowLegal : List ℕ → ℕ → List ℕ → List ℕ → Bool
 rowLegal sheet b old row = allBelow (channels sheet) (λ c. partLegal (strategyAt sheet b c) (endAt sheet c) (piece 256 c old) (piece 256 c row))
 
--- all exponents: cause 4
+-- the exponents of all six blocks; else cause 4
 unfoldable pub expsLegal : List ℕ → List ℕ → Bool
 expsLegal sheet exps = allBelow 6 (λ b. rowLegal sheet b (earlier sheet exps b) (rowOf sheet b exps))
 
--- all codes: cause 5
+-- the codes of all six blocks below each end, each in the range of its bap; else cause 5
 unfoldable pub codesLegal : List ℕ → List ℕ → List ℕ → Bool
 codesLegal sheet exps codes = allBelow 6 (λ b. coded (bapRow sheet (rowOf sheet b exps)) (cleanRow sheet (rowOf sheet b codes)))
 
+-- a legal frame: exponents and codes that neither cause turns back
 pub record LegalFrame (sheet exps codes : List ℕ) : Type 0 where
   pub shaped : expsLegal sheet exps ≡ true
   pub coded : codesLegal sheet exps codes ≡ true

@@ -2,8 +2,11 @@ pub mod Layout
 pub mod Body
 pub mod Reader
 pub mod Legal
-pub mod Under
 pub mod Answers
+pub mod Under
 pub mod LayoutLaws
+pub mod BodyLaws
 pub mod LegalLaws
+pub mod AnswersLaws
+pub mod ReadBackLaws
 pub mod Theorems

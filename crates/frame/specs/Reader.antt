@@ -11,16 +11,16 @@ use Rattle.mantissas.specs.Stream.{readStream}
 use Rattle.frame.specs.Layout.{channels, endAt, strategyAt, spanFor, rowOf, cleanRow}
 use Rattle.frame.specs.Body.{bapRow, exponentCounts, mantissaCounts}
 
--- a channel's part of a block: a new set, or the earlier part again
+-- a channel's exponents in a block: a new set is read, reuse repeats the part of the block before (`old`)
 unfoldable pub readPart : ℕ → ℕ → List ℕ → List Bool → Outcome (List ℕ)
 readPart zero end old bits = ok old bits
 readPart (suc s) end old bits = then (readExponents end (spanFor (suc s)) bits) (λ exps rest. ok (exps ++ replicate (256 - end) 0) rest)
 
--- the exponents of block b, after the row `old`
+-- the exponents of block b, after the row `old` of the block before
 unfoldable pub readSets : List ℕ → ℕ → List ℕ → List Bool → Outcome (List ℕ)
 readSets sheet b old bits = gather (λ c. readPart (strategyAt sheet b c) (endAt sheet c) (piece 256 c old)) (channels sheet) bits
 
--- what the blocks so far gave; `row` has the exponents that hold now
+-- what the blocks so far gave: three buffers and the counts; `row` is the row of exponents that a reuse block repeats
 pub record Frame : Type 0 where
   pub exps : List ℕ
   pub bap : List ℕ
@@ -29,7 +29,7 @@ pub record Frame : Type 0 where
   pub exponentBits : List ℕ
   pub mantissaBits : List ℕ
 
--- one block more: its row of exponents, its bap, its codes, and how many bits each kind took
+-- one block more: its exponents, its bap, its codes, and how many bits of each kind it took
 unfoldable pub grown : Frame → List ℕ → List ℕ → List ℕ → ℕ → ℕ → Frame
 grown s row bap codes e m =
     record {
@@ -41,26 +41,29 @@ grown s row bap codes e m =
       mantissaBits = s .mantissaBits ++ (m ∷ []);
     }
 
+-- block b: its sets, then its mantissas by the bap that is worked out from the exponents just read
 unfoldable pub readBlock : List ℕ → ℕ → Frame → List Bool → Outcome Frame
 readBlock sheet b s bits =
     then (readSets sheet b (s .row) bits) (λ row r.
     then (readStream (bapRow sheet row) r) (λ codes u.
     ok (grown s row (bapRow sheet row) codes (length bits - length r) (length r - length u)) u))
 
+-- before block 0: nothing is read
 unfoldable pub nothing : List ℕ → Frame
 nothing sheet = record { exps = []; bap = []; codes = []; row = replicate (256 * channels sheet) 0; exponentBits = []; mantissaBits = [] }
 
+-- the six blocks
 unfoldable pub readFrame : List ℕ → List Bool → Outcome Frame
 readFrame sheet bits = steps (readBlock sheet) 6 (nothing sheet) bits
 
 -- ---- what is read of a frame that was written
 
--- the exponents that hold when block b begins
+-- the exponents that block b may repeat: those of the block before, below each end; block 0 is never reuse and has zeros there
 unfoldable pub earlier : List ℕ → List ℕ → ℕ → List ℕ
 earlier sheet exps zero = replicate (256 * channels sheet) 0
 earlier sheet exps (suc b) = cleanRow sheet (rowOf sheet b exps)
 
--- its first k blocks, 0 from each end on, with their allocation and counts
+-- what is read of its first k blocks: exponents and codes with 0 from each end on, their allocation and their counts
 unfoldable pub frameOf : List ℕ → List ℕ → List ℕ → ℕ → Frame
 frameOf sheet exps codes k =
     record {

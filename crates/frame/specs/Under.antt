@@ -1,4 +1,4 @@
--- What the frame's functions hold by value of an accepted sheet, and what is known of each of its channels.
+-- What the frame's functions hold by value of an accepted sheet (document 01, "The track sheet"), and what is known of each of its channels.
 use Prim.Native.Nat.{ℕ, zero, suc, _≤_, _<_}
 use mathlib.Core.Path.{_≡_, refl, ap}
 use mathlib.Core.Bool.{true}
@@ -18,6 +18,7 @@ use Rattle.sheet.specs.Sheet.{checkOf}
 use Rattle.frame.specs.Layout.{channels, endAt, strategyAt, spanFor}
 use Rattle.frame.specs.declared.track.Track.{Track}
 
+-- the number of channels and the end of each
 abbrev pub trackOf : List ℕ → Track
 trackOf sheet = record { channels = channelsOf (commonOf sheet); ends = endsOf sheet }
 
@@ -35,6 +36,8 @@ pub record Channel (sheet : List ℕ) (c : ℕ) : Type 0 where
   pub strategy : (b : ℕ) → strategyAt sheet b c ≤ 3
   pub first : 1 ≤ strategyAt sheet 0 c
   pub codes : LegalCodes (commonOf sheet) (recordOf sheet c)
+
+-- ---- what an accepted sheet says
 
 pub channel-known : (sheet : List ℕ) → checkOf sheet ≡ refusal.accepted → (c : ℕ) → c < channels sheet → Channel sheet c
 unfolding channels endAt strategyAt
@@ -56,8 +59,12 @@ pub channels-some : (sheet : List ℕ) → checkOf sheet ≡ refusal.accepted �
 unfolding channels
 channels-some sheet h = let legal = legal-sheet sheet h in (legal .common .channels-least, legal .common .channels-most)
 
+-- block 0 is never reuse
+pub first-new : (sheet : List ℕ) → checkOf sheet ≡ refusal.accepted → (c : ℕ) → c < channels sheet → strategyAt sheet 0 c ≡ 0 → ⊥
+first-new sheet accepted c h z = omega (arith, channel-known sheet accepted c h .first)
+
+-- what is held by value is what the definitions say
 module _ {sheet : List ℕ} {track : Track} {strategies : List (List ℕ)} (u : Under sheet track strategies) where
-  -- what is held by value is what the definitions say
   pub held-channels : track .channels ≡ channels sheet
   unfolding channels
   held-channels = ap (λ (t : Track). t .channels) (u .by-value)
@@ -69,6 +76,16 @@ module _ {sheet : List ℕ} {track : Track} {strategies : List (List ℕ)} (u : 
   pub held-strategy : (b c : ℕ) → strategyIn strategies c b ≡ strategyAt sheet b c
   unfolding strategyAt
   held-strategy b c = ap (λ (t : List (List ℕ)). strategyIn t c b) (u .table)
+
+  -- and what is known of a channel whose number is below the count that is held
+  pub held-below : (c : ℕ) → c < track .channels → c < channels sheet
+  held-below c h = omega (arith, held-channels)
+
+  pub held-channel : (c : ℕ) → c < track .channels → Channel sheet c
+  held-channel c h = channel-known sheet (u .accepted) c (held-below c h)
+
+  pub held-legal : (c : ℕ) → c < track .channels → legalEnd (getD (track .ends) c 0) ≡ true
+  held-legal c h = rw (held-end c) (held-channel c h .legal)
 
 -- the span of a new set is one of the three
 pub span-known : (strategy : ℕ) → (strategy ≡ 0 → ⊥) → isSpan (spanFor strategy) ≡ true

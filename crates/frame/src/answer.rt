@@ -1,4 +1,4 @@
-// The answer of the frame's calls.
+// The answer of the frame's calls (document 01, "The frame body", "When a call is turned back").
 ghost use mathlib.Core.Path.{_≡_};
 ghost use Rattle.frame.specs.Answers.{turnedBack};
 
@@ -9,6 +9,7 @@ pub struct FrameAnswer {
     pub bits: u32,
 }
 
+// A refusal: its number, and counts 0.
 pub fn refused(number: u32) -> FrameAnswer
     ensures { λ r. ⌜ r ≡ turnedBack number ⌝ }
 {

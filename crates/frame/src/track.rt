@@ -1,9 +1,7 @@
 // What the frame's functions take from a sheet by value; the records are read off the sheet where they are needed.
 ghost use mathlib.Core.Path.{_≡_};
-ghost use Prim.Native.Nat.{_<_, _≤_};
-ghost use Rattle.bits.specs.Refusal as refusal;
+ghost use Prim.Native.Nat.{_<_};
 ghost use Rattle.sheet.specs.Record.{strategyIn};
-ghost use Rattle.sheet.specs.Sheet.{checkOf};
 ghost use Rattle.frame.specs.Layout.{spanFor};
 ghost use Rattle.frame.specs.Under.{trackOf};
 
@@ -13,6 +11,7 @@ pub struct Track {
     pub ends: [usize; 6],
 }
 
+// Those of a sheet.
 pub fn track_of(sheet: &[u8]) -> Track
     ensures { λ r. ⌜ r ≡ trackOf (now (sheet .entry)) ⌝ }
 {
@@ -32,7 +31,7 @@ pub fn strategy_at(strategies: [[u8; 6]; 6], b: usize, c: usize) -> u8
     strategies[c][b]
 }
 
-// 1 D15, 2 D25, 3 D45.
+// The span of a strategy: 1 D15, 2 D25, 3 D45; reuse has none.
 pub fn span_for(strategy: u8) -> usize
     ensures { λ r. ⌜ r ≡ spanFor strategy ⌝ }
 {

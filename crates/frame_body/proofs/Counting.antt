@@ -14,9 +14,10 @@ use Rattle.exponents.specs.GroupsLaws.{count-thirds}
 use Rattle.mantissas.specs.Count.{sum}
 use Rattle.sheet.specs.Ranges.{legalEnd}
 use Rattle.frame.specs.Layout.{spanFor}
-use Rattle.frame.specs.Theorems.{total, total-append}
+use Rattle.frame.specs.Body.{total}
+use Rattle.frame.specs.BodyLaws.{total-append}
 use Rattle.frame.specs.Under.{span-known}
-use Rattle.frame_body.specs.Formula.{setCount}
+use Rattle.frame_body.specs.Counts.{setCount}
 
 -- ---- a set
 

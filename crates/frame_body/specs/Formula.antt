@@ -1,7 +1,5 @@
--- The twelve counts of a body by their formulas (document 01, demand 3). Exponent bits of a block: 4 + 7 g for each channel with a new set,
--- g a third of the spans coded after the 4 bits, rounded up. Mantissa bits: 5⌈n1/3⌉ + 7⌈n2/3⌉ + 7⌈n4/2⌉ and the widths of the ungrouped,
--- counted over all channels of the block.
-use Prim.Native.Nat.{ℕ, zero, suc, _+_, _*_, _/_, _≤_, _<_}
+-- Demand 3: each of the twelve counts of a body is its formula (specs/Counts.antt), and n1, n2, n4 go over all channels of the block.
+use Prim.Native.Nat.{ℕ, zero, suc, _+_, _*_, _≤_, _<_}
 use mathlib.Core.Path.{_≡_, refl, ap, ap₂, _∙_}
 use mathlib.Core.Bool.{Bool, true}
 use mathlib.Core.List.{List, [], _∷_, _++_}
@@ -12,9 +10,9 @@ use lib.Seq.{length-take-le, getD-append-add}
 use Rattle.bits.specs.Parts.{joined, piece, tab}
 use Rattle.bits.specs.PartsLaws.{length-tab, tab-cong, getD-tab}
 use Rattle.bits.specs.Refusal as refusal
-use Rattle.exponents.specs.Groups.{spanCount, groupCount}
+use Rattle.exponents.specs.Groups.{groupCount}
 use Rattle.exponents.specs.GroupsLaws.{count-thirds, length-exponentBits}
-use Rattle.mantissas.specs.Count.{count, alone, sum, length-stream-formula}
+use Rattle.mantissas.specs.Count.{count, sum, length-stream-formula}
 use Rattle.mantissas.specs.State.{by-bool}
 use Rattle.mantissas.specs.Stream.{Coded}
 use Rattle.sheet.specs.Ranges.{legalEnd}
@@ -25,22 +23,11 @@ use Rattle.frame.specs.Body.{setBits, setsBits, bapPart, bapRow, mantissaBits, 
 use Rattle.frame.specs.Legal.{codesLegal}
 use Rattle.frame.specs.LegalLaws.{legal-codes}
 use Rattle.frame.specs.Under.{channel-known, span-known}
-
--- the exponent bits of a channel's block: none where it reuses the earlier ones
-unfoldable pub setCount : ℕ → ℕ → ℕ
-setCount zero end = 0
-setCount (suc s) end = 4 + 7 * ((spanCount end (spanFor (suc s)) + 2) / 3)
-
--- those of block b
-unfoldable pub setsCount : List ℕ → ℕ → ℕ
-setsCount sheet b = sum (λ c. setCount (strategyAt sheet b c) (endAt sheet c)) (channels sheet)
-
--- the mantissa bits of a block's baps
-unfoldable pub mantissaCount : List ℕ → ℕ
-mantissaCount bs = 5 * ((count 1 bs + 2) / 3) + 7 * ((count 2 bs + 2) / 3) + 7 * ((count 4 bs + 1) / 2) + alone bs
+use Rattle.frame_body.specs.Counts.{setCount, setsCount, mantissaCount}
 
 -- ---- a set, a block's sets, a block's mantissas
 
+-- a channel's set
 pub set-count : (s end : ℕ) (part : List ℕ) → legalEnd end ≡ true → end ≤ length part → length (setBits s end part) ≡ setCount s end
 unfolding setBits setCount
 set-count zero end part e l = refl
@@ -55,6 +42,7 @@ unfolding joined sum
 joined-sum f g zero h = refl
 joined-sum f g (suc k) h = rw (length-append, joined-sum f g k (λ i l. h i (omega arith)), h k (omega arith))
 
+-- a block's sets
 pub sets-count : (sheet : List ℕ) → checkOf sheet ≡ refusal.accepted → (b : ℕ) (row : List ℕ) → length row ≡ 256 * channels sheet
     → length (setsBits sheet b row) ≡ setsCount sheet b
 unfolding setsBits setsCount
@@ -62,6 +50,7 @@ sets-count sheet accepted b row long =
     joined-sum _ _ (channels sheet)
     (λ c l. set-count (strategyAt sheet b c) (endAt sheet c) _ (channel-known sheet accepted c l .legal) (end-inside sheet accepted row long c l))
 
+-- a block's mantissas
 pub mantissas-count : (sheet row codes : List ℕ) → Coded (bapRow sheet row) (cleanRow sheet codes)
     → length (mantissaBits sheet row codes) ≡ mantissaCount (bapRow sheet row)
 unfolding mantissaBits mantissaCount
@@ -82,10 +71,11 @@ pub count-channels : (k : ℕ) (sheet row : List ℕ) → count k (bapRow sheet 
 unfolding bapRow
 count-channels k sheet row = count-joined k _ (channels sheet)
 
--- ---- the twelve
+-- ---- the twelve counts of a body
 
 module _ (sheet exps codes : List ℕ) (accepted : checkOf sheet ≡ refusal.accepted) (long : length exps ≡ 256 * channels sheet * 6)
     (legal : codesLegal sheet exps codes ≡ true) where
+  -- six exponent counts and six mantissa counts
   pub counts-formula : countsOf sheet exps codes ≡ tab 6 (setsCount sheet) ++ tab 6 (λ b. mantissaCount (bapRow sheet (rowOf sheet b exps)))
   unfolding countsOf exponentCounts mantissaCounts
   counts-formula =

@@ -1,3 +1,4 @@
+pub mod Counts
 pub mod Formula
 pub mod Size
 pub mod Writing

@@ -20,13 +20,15 @@ use Rattle.sheet.specs.Ranges.{legalEnd}
 use Rattle.sheet.specs.Sheet.{checkOf}
 use Rattle.frame.specs.Layout.{channels, endAt, strategyAt, spanFor, rowOf, cleanRow}
 use Rattle.frame.specs.LayoutLaws.{length-bapRow, length-row, end-inside}
-use Rattle.frame.specs.Body.{setsBits, bapRow, mantissaBits, blockBits, bodyBits, countsOf}
+use Rattle.frame.specs.Body.{setsBits, bapRow, mantissaBits, blockBits, bodyBits, countsOf, total}
 use Rattle.frame.specs.Legal.{codesLegal}
 use Rattle.frame.specs.LegalLaws.{legal-codes}
-use Rattle.frame.specs.Theorems.{total, body-count}
+use Rattle.frame.specs.Theorems.{body-count}
 use Rattle.frame.specs.Under.{channel-known, channels-some, span-known}
-use Rattle.frame_body.specs.Formula.{setCount, set-count}
+use Rattle.frame_body.specs.Counts.{setCount}
+use Rattle.frame_body.specs.Formula.{set-count}
 
+-- parts of at most z bits each
 joined-most : (z : ℕ) (f : ℕ → List Bool) (k : ℕ) → ((i : ℕ) → i < k → length (f i) ≤ z) → length (joined k f) ≤ z * k
 unfolding joined
 joined-most z f zero h = omega arith
@@ -65,6 +67,7 @@ module _ (sheet : List ℕ) (accepted : checkOf sheet ≡ refusal.accepted) wher
   unfolding mantissaBits bitCount
   mantissas-most r codes h = omega (arith, length-stream h, counted-most (λ k. 0) (coded-baps h), length-bapRow sheet r)
 
+  -- a body has at most 168,768 bits
   pub body-most : (exps codes : List ℕ) → length exps ≡ 256 * channels sheet * 6 → codesLegal sheet exps codes ≡ true → length (bodyBits sheet exps codes) ≤ 168768
   unfolding bodyBits blockBits
   body-most exps codes long legal =

@@ -1,16 +1,15 @@
-// The twelve counts of a body, before any bit is written.
+// The twelve counts of a body (document 01, "The frame body"), before any bit is written.
 use frame::Track;
 ghost use mathlib.Core.Path.{_≡_};
 ghost use mathlib.Core.Bool.{true};
 ghost use Prim.Native.Nat.{_*_, _^_, _≤_, _<_};
 ghost use lib.ListN.{length};
 ghost use Rattle.sheet.specs.Ranges.{legalEnd};
-ghost use Rattle.frame.specs.Body.{countsOf};
+ghost use Rattle.frame.specs.Body.{countsOf, total};
 ghost use Rattle.frame.specs.Legal.{codesLegal};
-ghost use Rattle.frame.specs.Theorems.{total};
 ghost use Rattle.frame.specs.Under.{Under};
 ghost use Rattle.frame_rows.specs.Rows.{bapsOf};
-ghost use Rattle.frame_body.specs.Formula.{setCount, setsCount};
+ghost use Rattle.frame_body.specs.Counts.{setCount, setsCount};
 
 // A channel's exponents in a block: none where the block reuses the earlier ones, else 4 bits and at most 84 groups.
 fn count_set(strategy: u8, end: usize) -> u32
@@ -64,7 +63,7 @@ pub fn count_body(
     counts
 }
 
-// The bits of the body.
+// The bits of the body: the sum of its counts.
 pub fn body_size(counts: [u32; 12]) -> u32
     requires { ⌜ total counts < 2 ^ 32 ⌝ }
     ensures { λ r. ⌜ r ≡ total counts ⌝ }

@@ -1,4 +1,4 @@
-// The bits of a body, block by block: the new exponent sets by channel number, then all mantissas.
+// The bits of a body (document 01, "The frame body"; A/52 5.4.3), block by block: the new exponent sets by channel number, then all mantissas.
 use bits::Writer;
 use frame::Track;
 ghost use mathlib.Core.Path.{_≡_};

@@ -6,7 +6,7 @@ use native.Mathlib.Numerals.{add-one}
 use lib.Ieee.{Float, nan}
 use lib.ListN.{length, take, drop, getD, set, drop-of-length-le}
 use lib.Seq.{drop-cons}
-use Rattle.frame_runs.specs.Filling.{stored, ended}
+use Rattle.frame_runs.specs.FillingLaws.{stored, ended}
 use Rattle.quantiser.specs.Code.{codeOf}
 use Rattle.frame_encoder.specs.Codes.{codesFor}
 

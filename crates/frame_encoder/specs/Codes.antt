@@ -1,4 +1,5 @@
--- The codes of a frame (document 01, "The frame body"): `quantise_mantissa` of each coefficient below end at that bin's exponent and bap.
+-- The codes of a frame (document 01, "The frame body"): "its bap is the allocation of these exponents, and its codes are
+-- `quantise_mantissa` of each coefficient below end at that bin's exponent and bap".
 use Prim.Native.Nat.{ℕ, _-_}
 use mathlib.Core.List.{List, [], _∷_, _++_}
 use lib.Ieee.{Float}
@@ -8,14 +9,14 @@ use Rattle.frame_rows.specs.Rows.{bapsOf}
 use Rattle.frame_runs.specs.Runs.{belowEnd, framed, expsOf}
 use Rattle.quantiser.specs.Code.{codeOf}
 
--- the code of each coefficient at its exponent and bap
+-- `quantise_mantissa` of each coefficient at that bin's exponent and bap
 unfoldable pub codesFor : List Float → List ℕ → List ℕ → List ℕ
 codesFor [] exps bap = []
 codesFor (x ∷ xs) [] bap = []
 codesFor (x ∷ xs) (k ∷ exps) [] = []
 codesFor (x ∷ xs) (k ∷ exps) (b ∷ bap) = codeOf x k b ∷ codesFor xs exps bap
 
--- a channel's part of block b; 0 from end on
+-- a channel's part of block b: the codes of its coefficients below end; "entries from end on are .. written as 0"
 unfoldable pub codePart : List ℕ → List Float → List ℕ → List ℕ → ℕ → ℕ → List ℕ
 codePart sheet coeffs exps bap b c =
     codesFor (belowEnd sheet b c coeffs) (belowEnd sheet b c exps) (belowEnd sheet b c bap) ++ replicate (256 - endAt sheet c) 0
@@ -24,6 +25,6 @@ codePart sheet coeffs exps bap b c =
 unfoldable pub codesAt : List ℕ → List Float → List ℕ → List ℕ → List ℕ
 codesAt sheet coeffs exps bap = framed sheet (codePart sheet coeffs exps bap)
 
--- at the exponents of the frame's runs and their allocation
+-- the frame's codes: at the exponents of its runs and "the allocation of these exponents"
 unfoldable pub codesOf : List ℕ → List Float → List ℕ
 codesOf sheet coeffs = codesAt sheet coeffs (expsOf sheet coeffs) (bapsOf sheet (expsOf sheet coeffs))

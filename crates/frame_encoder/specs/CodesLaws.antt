@@ -1,6 +1,5 @@
--- What the codes of a frame ask: finite coefficients with legal exponents and their allocation.
+-- A channel's part of a frame that is allocated can be coded: its coefficients are finite, its exponents at most 24, its baps at most 15.
 use Prim.Native.Nat.{ℕ, zero, suc, _-_, _*_, _≤_, _<_}
-use mathlib.Core.Bool.{true}
 use mathlib.Core.List.{List, [], _∷_, _++_}
 use mathlib.Core.Path.{_≡_, sym, ap, _∙_}
 use native.Mathlib.Omega.{arith}
@@ -13,12 +12,11 @@ use Rattle.bits.specs.Refusal as refusal
 use Rattle.frame.specs.Body.{bapPart}
 use Rattle.frame.specs.Layout.{channels, endAt, rowOf}
 use Rattle.frame.specs.LayoutLaws.{piece-bap}
-use Rattle.frame.specs.Legal.{expsLegal}
 use Rattle.frame.specs.Under.{channel-known}
 use Rattle.frame_rows.specs.LegalLaws.{legal-low}
 use Rattle.frame_rows.specs.Rows.{bapsOf}
 use Rattle.frame_rows.specs.RowsLaws.{length-baps, row-baps}
-use Rattle.frame_runs.specs.Finite.{finitePart, Encodable}
+use Rattle.frame_runs.specs.Finite.{Encodable}
 use Rattle.frame_runs.specs.FiniteLaws.{finite-below}
 use Rattle.frame_runs.specs.FramedLaws.{below-row}
 use Rattle.frame_runs.specs.Runs.{belowEnd}
@@ -28,26 +26,9 @@ use Rattle.quantiser.specs.Code.{codeOf}
 use Rattle.quantiser.specs.CodeLaws.{code-in-range}
 use Rattle.sheet.specs.Sheet.{checkOf}
 use Rattle.frame_encoder.specs.Codes.{codesFor, codePart}
+use Rattle.frame_encoder.specs.Made.{Codable, Allocated}
 
--- ---- what is asked
-
--- coefficients with an exponent and a bap each
-pub record Codable (xs : List Float) (exps bap : List ℕ) : Type 0 where
-  pub all-finite : finitePart xs ≡ true
-  pub exps-long : length exps ≡ length xs
-  pub bap-long : length bap ≡ length xs
-  pub low : (i : ℕ) → i < length xs → getD exps i 0 ≤ 24
-  pub fit : (i : ℕ) → getD bap i 0 ≤ 15
-
--- legal exponents and their allocation
-pub record Allocated (sheet exps bap : List ℕ) : Type 0 where
-  pub whole : length exps ≡ 256 * channels sheet * 6
-  pub legal : expsLegal sheet exps ≡ true
-  pub is : bap ≡ bapsOf sheet exps
-
--- ---- a code
-
--- it fits 16 bits
+-- a code fits 16 bits
 pub code-fits : (x : Float) (k b : ℕ) → b ≤ 15 → codeOf x k b < 65536
 code-fits x k b h = omega (arith, code-in-range x k b h, row b (omega (arith, h)) .levels-most)
 

@@ -19,15 +19,16 @@ use Rattle.frame_runs.specs.Finite.{Encodable}
 use Rattle.frame_runs.specs.FramedLaws.{length-framed, row-framed-clean, framed-clean}
 use Rattle.frame_runs.specs.Runs.{belowEnd, expsOf}
 use Rattle.frame_runs.specs.RunsLaws.{whole-below}
-use Rattle.frame_runs.specs.RunsLegal.{length-expsOf, expsOf-legal, all-hold}
+use Rattle.frame_runs.specs.RunsLegal.{length-expsOf, expsOf-legal}
 use Rattle.mantissas.specs.CodedLaws.{coded-is}
 use Rattle.mantissas.specs.Ranges.{row}
 use Rattle.mantissas.specs.Stream.{Coded, empty, bin, coded}
 use Rattle.quantiser.specs.CodeLaws.{code-in-range}
 use Rattle.sheet.specs.Sheet.{checkOf}
+use Rattle.sheet.specs.Tests.{all-hold}
 use Rattle.frame_encoder.specs.Codes.{codesFor, codePart, codesAt, codesOf}
-use Rattle.frame_encoder.specs.CodesLaws.{Codable, Allocated, bap-most, end-held, bap-below, codable-part}
-use Rattle.frame_encoder.specs.Made.{Made}
+use Rattle.frame_encoder.specs.CodesLaws.{bap-most, end-held, bap-below, codable-part}
+use Rattle.frame_encoder.specs.Made.{Codable, Allocated, Made}
 
 -- ---- codes in range, put together
 

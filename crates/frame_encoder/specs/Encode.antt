@@ -18,7 +18,7 @@ use Rattle.frame_encoder.specs.Codes.{codesOf}
 unfoldable pub encodedBits : List ℕ → List Float → List Bool
 encodedBits sheet coeffs = bodyBits sheet (expsOf sheet coeffs) (codesOf sheet coeffs)
 
--- 6, or the counts and the bits of a legal frame; size is the output's length in bytes
+-- of a legal frame: its counts and how many bits its body has, or 6; `size` is the output's length in bytes
 unfoldable pub roomAnswer : List ℕ → List ℕ → List ℕ → ℕ → FrameAnswer
 roomAnswer sheet exps codes size =
     must (hasRoom size (bodyBits sheet exps codes)) refusal.noRoom (
@@ -28,7 +28,7 @@ roomAnswer sheet exps codes size =
 abbrev pub allFit : List ℕ → ℕ → ℕ → ℕ → ℕ → Bool
 allFit sheet coeffs exps bap codes = fits sheet coeffs && fits sheet exps && fits sheet bap && fits sheet codes
 
--- exps, bap, codes and size are the lengths of the buffers
+-- `exps`, `bap` and `codes` are the buffers' lengths, `size` is the output's
 unfoldable pub encodeAnswer : List ℕ → List Float → ℕ → ℕ → ℕ → ℕ → FrameAnswer
 encodeAnswer sheet coeffs exps bap codes size =
     sheetFirst sheet (
@@ -36,6 +36,6 @@ encodeAnswer sheet coeffs exps bap codes size =
     must (allFinite sheet coeffs) refusal.notFinite (
     roomAnswer sheet (expsOf sheet coeffs) (codesOf sheet coeffs) size)))
 
--- a buffer afterwards: what is new where the call was accepted, as it was where it was refused
+-- exponents, bap or codes afterwards: what is new where the call was accepted, as it was where it was refused
 unfoldable pub left : FrameAnswer → List ℕ → List ℕ → List ℕ
 left a new before = cond (eqb (a .refusal) refusal.accepted) new before

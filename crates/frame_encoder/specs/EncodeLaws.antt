@@ -1,16 +1,16 @@
 -- The answer of `encode_body` by what was found, in the table's order.
 use Prim.Native.Nat.{ℕ, _*_, _≤_, _<_}
-use mathlib.Core.Bool.{Bool, true, false, _&&_}
+use mathlib.Core.Bool.{true, false, _&&_}
 use mathlib.Core.List.{List}
 use mathlib.Core.Path.{_≡_}
 use native.Mathlib.Omega.{arith}
 use lib.Ieee.{Float}
 use lib.ListN.{length}
 use borrow.Author.Tests.{eqb-true, eq-eqb, ne-eqb, lt-ltb, le-ltb}
-use Rattle.bits.specs.Answer.{stored}
 use Rattle.bits.specs.Bytes.{bytesFor}
 use Rattle.bits.specs.Refusal as refusal
-use Rattle.frame.specs.Answers.{gives, turnedBack, fits, bodyLeft}
+use Rattle.bits.specs.Tests.{both}
+use Rattle.frame.specs.Answers.{gives, turnedBack, fits}
 use Rattle.frame.specs.Body.{bodyBits, countsOf}
 use Rattle.frame.specs.Layout.{channels}
 use Rattle.frame.specs.declared.answer.FrameAnswer.{FrameAnswer}
@@ -18,7 +18,6 @@ use Rattle.frame_runs.specs.Finite.{allFinite}
 use Rattle.frame_runs.specs.Runs.{expsOf}
 use Rattle.sheet.specs.Layout.{bufferLength}
 use Rattle.sheet.specs.Sheet.{checkOf}
-use Rattle.sheet.specs.Tests.{both}
 use Rattle.frame_encoder.specs.Codes.{codesOf}
 use Rattle.frame_encoder.specs.Encode.{roomAnswer, allFit, encodeAnswer, left}
 
@@ -28,17 +27,9 @@ pub left-refused : (a : FrameAnswer) (k : ℕ) (new before : List ℕ) → a ≡
 unfolding left
 left-refused a k new before e h = rw (e, ne-eqb k refusal.accepted h)
 
-pub body-refused : (a : FrameAnswer) (k : ℕ) (bits : List Bool) (before : List ℕ) → a ≡ turnedBack k → (k ≡ refusal.accepted → ⊥) → before ≡ bodyLeft a bits before
-unfolding bodyLeft
-body-refused a k bits before e h = rw (e, ne-eqb k refusal.accepted h)
-
 pub left-accepted : (a : FrameAnswer) (counts : List ℕ) (n : ℕ) (new before : List ℕ) → a ≡ gives counts n → new ≡ left a new before
 unfolding left
 left-accepted a counts n new before e = rw e
-
-pub body-accepted : (a : FrameAnswer) (counts : List ℕ) (n : ℕ) (bits : List Bool) (before : List ℕ) → a ≡ gives counts n → stored bits before ≡ bodyLeft a bits before
-unfolding bodyLeft
-body-accepted a counts n bits before e = rw e
 
 -- ---- room
 

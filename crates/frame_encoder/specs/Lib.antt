@@ -1,7 +1,7 @@
 pub mod Codes
-pub mod CodesLaws
-pub mod Made
-pub mod CodesLegal
 pub mod Encode
+pub mod Made
+pub mod CodesLaws
+pub mod CodesLegal
 pub mod EncodeLaws
 pub mod Theorems

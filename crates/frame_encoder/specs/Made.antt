@@ -1,13 +1,30 @@
--- A frame as it is worked out in local arrays before it is stored.
-use Prim.Native.Nat.{ℕ, _*_}
+-- What the functions of this crate ask of each other, from the coefficients of a part to the frame that is stored.
+use Prim.Native.Nat.{ℕ, _*_, _≤_, _<_}
+use mathlib.Core.Bool.{true}
 use mathlib.Core.List.{List}
 use mathlib.Core.Path.{_≡_}
-use lib.ListN.{length}
+use lib.Ieee.{Float}
+use lib.ListN.{length, getD}
 use Rattle.frame.specs.Layout.{channels}
-use Rattle.frame.specs.Legal.{LegalFrame}
+use Rattle.frame.specs.Legal.{expsLegal, LegalFrame}
 use Rattle.frame_rows.specs.Rows.{bapsOf, cleaned}
+use Rattle.frame_runs.specs.Finite.{finitePart}
 
--- legal exponents and codes, clean codes, and the allocation
+-- coefficients that can be coded: each is finite, with an exponent of at most 24 and a bap of at most 15
+pub record Codable (xs : List Float) (exps bap : List ℕ) : Type 0 where
+  pub all-finite : finitePart xs ≡ true
+  pub exps-long : length exps ≡ length xs
+  pub bap-long : length bap ≡ length xs
+  pub low : (i : ℕ) → i < length xs → getD exps i 0 ≤ 24
+  pub fit : (i : ℕ) → getD bap i 0 ≤ 15
+
+-- the legal exponents of a frame and their allocation
+pub record Allocated (sheet exps bap : List ℕ) : Type 0 where
+  pub whole : length exps ≡ 256 * channels sheet * 6
+  pub legal : expsLegal sheet exps ≡ true
+  pub is : bap ≡ bapsOf sheet exps
+
+-- a frame as it is worked out in local arrays before it is stored: legal, with its allocation, and its codes 0 from each end on
 pub record Made (sheet exps bap codes : List ℕ) : Type 0 where
   pub exps-long : length exps ≡ 256 * channels sheet * 6
   pub bap-long : length bap ≡ 256 * channels sheet * 6

@@ -2,7 +2,7 @@
 -- that fit, are never refused, and each refusal is given only for its cause. Demand 2: the body is the one that `write_body` writes of
 -- the exponents and codes. Demand 3: it is read back as just these exponents, their allocation and these codes.
 use Prim.Native.Nat.{ℕ, _*_, _≤_}
-use mathlib.Core.Bool.{Bool, true, false, not, cond}
+use mathlib.Core.Bool.{true, false}
 use mathlib.Core.List.{List}
 use mathlib.Core.Path.{_≡_, refl, sym, ap, _∙_}
 use native.Mathlib.Omega.{arith}
@@ -12,7 +12,8 @@ use borrow.Author.Tests.{eq-eqb, eqb-false}
 use Rattle.bits.specs.Bytes.{bytesFor}
 use Rattle.bits.specs.Reading.{Reads}
 use Rattle.bits.specs.Refusal as refusal
-use Rattle.frame.specs.Answers.{gives, must, fits, hasRoom, writeAnswer, bodyLeft}
+use Rattle.frame.specs.Answers.{gives, fits, hasRoom, writeAnswer, bodyLeft}
+use Rattle.frame.specs.AnswersLaws.{must-says, check-says}
 use Rattle.frame.specs.Body.{bodyBits, countsOf}
 use Rattle.frame.specs.Layout.{channels}
 use Rattle.frame.specs.Reader.{readFrame, frameOf}
@@ -36,7 +37,7 @@ module _ (sheet : List ℕ) (coeffs : List Float) (exps bap codes size : ℕ) (a
   encodable : Encodable sheet coeffs
   encodable = record { whole = fit-whole sheet (length coeffs) exps bap codes fit .coeffs-long; finite = finite }
 
-  -- NEVER REFUSED
+  -- never refused: finite coefficients under an accepted sheet, with buffers and an output that fit
   pub finite-encoded : bytesFor (length (encodedBits sheet coeffs)) ≤ size
       → encodeAnswer sheet coeffs exps bap codes size ≡ gives (countsOf sheet (expsOf sheet coeffs) (codesOf sheet coeffs)) (length (encodedBits sheet coeffs))
   unfolding encodedBits
@@ -65,7 +66,7 @@ module _ (sheet : List ℕ) (coeffs : List Float) (exps bap codes size : ℕ) (a
 -- ---- read back
 
 module _ (sheet : List ℕ) (coeffs : List Float) (accepted : checkOf sheet ≡ refusal.accepted) (e : Encodable sheet coeffs) where
-  -- READ BACK: the bits of the body, and any others after them, read as the frame, and the others are left
+  -- read back: the bits of the body, and any others after them, read as the frame, and the others are left
   pub encoded-reads-back : Reads (readFrame sheet) (encodedBits sheet coeffs) (frameOf sheet (expsOf sheet coeffs) (codesOf sheet coeffs) 6)
   unfolding encodedBits
   encoded-reads-back =
@@ -79,17 +80,6 @@ module _ (sheet : List ℕ) (coeffs : List Float) (accepted : checkOf sheet ≡ 
   encoded-read = (expsOf-clean sheet coeffs accepted (e .whole), refl, codesOf-clean sheet coeffs accepted e)
 
 -- ---- each refusal only for its cause
-
-must-says : {X : Type 0} (t : Bool) (k m : ℕ) (a : FrameAnswer) → must t k a .refusal ≡ m → (t ≡ false → k ≡ m → X) → (t ≡ true → a .refusal ≡ m → X) → X
-must-says true k m a e stop go = go refl e
-must-says false k m a e stop go = stop refl e
-
--- what number the check of a sheet may give, and for what
-check-says : {X : Type 0} (s r : Bool) (m : ℕ) → cond (not s) refusal.structure (cond (not r) refusal.outOfRange refusal.accepted) ≡ m
-    → (s ≡ false → 1 ≡ m → X) → (r ≡ false → 2 ≡ m → X) → (0 ≡ m → X) → X
-check-says false r m e a b c = a refl e
-check-says true false m e a b c = b refl e
-check-says true true m e a b c = c e
 
 module _ (sheet : List ℕ) (coeffs : List Float) (exps bap codes size : ℕ) where
   -- the tests one after the other, down to the one that gave the number m

@@ -11,7 +11,7 @@ ghost use Rattle.frame.specs.Under.{Under};
 ghost use Rattle.frame_runs.specs.Finite.{Encodable};
 ghost use Rattle.quantiser.specs.Code.{codeOf};
 ghost use Rattle.frame_encoder.specs.Codes.{codesFor, codePart, codesAt};
-ghost use Rattle.frame_encoder.specs.CodesLaws.{Codable, Allocated};
+ghost use Rattle.frame_encoder.specs.Made.{Codable, Allocated};
 use frame::Track;
 
 fn wide(x: u8) -> u32
@@ -41,16 +41,6 @@ fn code_bins(coeffs: &[f32], exps: &[u8], bap: &[u8], codes: &mut [u16])
     }
 }
 
-fn clear_codes(codes: &mut [u16])
-    ensures { λ _. ⌜ now (codes .exit) ≡ replicate (length (now (codes .entry))) 0 ⌝ }
-{
-    let mut i = 0;
-    while i < codes.len() {
-        codes[i] = 0;
-        i += 1;
-    }
-}
-
 // A channel's part: the codes of its bins below end, and 0 from there on.
 fn code_part(coeffs: &[f32], exps: &[u8], bap: &[u8], part: &mut [u16])
     requires { ⌜ Codable (now coeffs) (now exps) (now bap) ⌝ }
@@ -59,7 +49,7 @@ fn code_part(coeffs: &[f32], exps: &[u8], bap: &[u8], part: &mut [u16])
 {
     let end = coeffs.len();
     code_bins(coeffs, exps, bap, &mut part[0..end]);
-    clear_codes(&mut part[end..256]);
+    slices::fill_codes(&mut part[end..256], 0);
 }
 
 // Block b.
@@ -88,7 +78,7 @@ fn code_row(
 }
 
 // All six blocks.
-pub fn fill_codes(
+pub(crate) fn code_frame(
     sheet: &[u8],
     track: Track,
     strategies: [[u8; 6]; 6],

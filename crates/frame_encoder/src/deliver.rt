@@ -12,16 +12,6 @@ use bits::refusal::ACCEPTED;
 use bits::refusal::NO_ROOM;
 use frame::FrameAnswer;
 use frame::Track;
-use frame_rows::copy;
-
-fn copy_codes(from: &[u16], to: &mut [u16])
-    requires { ⌜ length (now from) ≡ length (now to) ⌝ }
-    ensures { λ _. ⌜ now (to .exit) ≡ now (from .entry) ⌝ }
-{
-    for i in 0..from.len() {
-        to[i] = from[i];
-    }
-}
 
 // The bytes that so many bits take.
 fn bytes_for(bits: u32) -> usize
@@ -58,9 +48,9 @@ pub(crate) fn deliver(
         return frame::refused(NO_ROOM);
     }
     frame_body::store_body(body, sheet, track, strategies, shaped, allocated, quantised);
-    copy(shaped, exps);
-    copy(allocated, bap);
-    copy_codes(quantised, codes);
+    slices::copy(shaped, exps);
+    slices::copy(allocated, bap);
+    slices::copy_codes(quantised, codes);
     FrameAnswer {
         refusal: ACCEPTED,
         counts: counts,

@@ -11,7 +11,7 @@ ghost use Rattle.frame_runs.specs.Finite.{Encodable};
 ghost use Rattle.frame_runs.specs.Runs.{expsOf};
 ghost use Rattle.frame_encoder.specs.Codes.{codesOf};
 ghost use Rattle.frame_encoder.specs.Encode.{encodedBits, roomAnswer, allFit, encodeAnswer, left};
-use crate::codes::fill_codes;
+use crate::codes::code_frame;
 use crate::deliver::deliver;
 use bits::refusal::ACCEPTED;
 use bits::refusal::NOT_FINITE;
@@ -38,7 +38,7 @@ fn make_frame(
 {
     frame_runs::fill_exponents(sheet, track, strategies, coeffs, shaped);
     frame_rows::allocate_body(sheet, track, strategies, shaped, allocated);
-    fill_codes(
+    code_frame(
         sheet,
         track,
         strategies,

@@ -15,7 +15,7 @@ use Rattle.frame.specs.Reader.{Frame, readFrame}
 use Rattle.frame.specs.Under.{trackOf, channels-some}
 use Rattle.frame.specs.declared.track.Track.{Track}
 use Rattle.frame.specs.declared.answer.FrameAnswer.{FrameAnswer}
-use Rattle.frame_reader.specs.Reading.{expsOf, bapOf, codesOf}
+use Rattle.frame_reader.specs.Reading.{expsRead, bapRead, codesRead}
 
 -- a reading with a fault: each buffer is all 0
 reading-fault : (part : Frame → List ℕ) (bits : List Bool) (n : ℕ) (o : Outcome Frame) → (readingOf bits o .refusal ≡ refusal.accepted → ⊥) → replicate n 0 ≡ readInto part n o
@@ -53,12 +53,12 @@ module _ (sheet : List ℕ) (bits : List Bool) (exps bap codes : List ℕ) where
   abbrev pub Done : FrameAnswer → List ℕ → List ℕ → List ℕ → Type 0
   Done r exps' bap' codes' =
       (r ≡ readAnswer sheet bits (length exps) (length bap) (length codes))
-      × ((exps' ≡ readLeft here expsOf (readFrame sheet bits) exps)
-      × ((bap' ≡ readLeft here bapOf (readFrame sheet bits) bap)
-      × (codes' ≡ readLeft here codesOf (readFrame sheet bits) codes)))
+      × ((exps' ≡ readLeft here expsRead (readFrame sheet bits) exps)
+      × ((bap' ≡ readLeft here bapRead (readFrame sheet bits) bap)
+      × (codes' ≡ readLeft here codesRead (readFrame sheet bits) codes)))
 
   left-alone : (r : FrameAnswer) → r ≡ readAnswer sheet bits (length exps) (length bap) (length codes) → here ≡ false → Done r exps bap codes
-  left-alone r a e = (a, (left-as-was expsOf (readFrame sheet bits) exps here e, (left-as-was bapOf (readFrame sheet bits) bap here e, left-as-was codesOf (readFrame sheet bits) codes here e)))
+  left-alone r a e = (a, (left-as-was expsRead (readFrame sheet bits) exps here e, (left-as-was bapRead (readFrame sheet bits) bap here e, left-as-was codesRead (readFrame sheet bits) codes here e)))
 
   pub refused-sheet : (r : FrameAnswer) → r ≡ turnedBack (checkOf sheet) → (checkOf sheet ≡ refusal.accepted → ⊥) → Done r exps bap codes
   unfolding readAnswer
@@ -92,8 +92,8 @@ module _ (sheet : List ℕ) (bits : List Bool) (exps bap codes : List ℕ) where
             left-alone r (e ∙ rw (a, x, y, z)) (rw (a, x, y, z))
 
         pub all-read : (r : FrameAnswer) (exps' bap' codes' : List ℕ) → length codes ≡ bufferLength (channels sheet) → r ≡ readingOf bits (readFrame sheet bits)
-            → exps' ≡ readInto expsOf (length exps) (readFrame sheet bits) → bap' ≡ readInto bapOf (length bap) (readFrame sheet bits)
-            → codes' ≡ readInto codesOf (length codes) (readFrame sheet bits) → Done r exps' bap' codes'
+            → exps' ≡ readInto expsRead (length exps) (readFrame sheet bits) → bap' ≡ readInto bapRead (length bap) (readFrame sheet bits)
+            → codes' ≡ readInto codesRead (length codes) (readFrame sheet bits) → Done r exps' bap' codes'
         unfolding readAnswer
         all-read r exps' bap' codes' codes-long e re rb rc =
             let a = eq-eqb (checkOf sheet) refusal.accepted accepted in
@@ -103,7 +103,7 @@ module _ (sheet : List ℕ) (bits : List Bool) (exps bap codes : List ℕ) where
             let t : here ≡ true = rw (a, x, y, z) in (
               e ∙ rw (a, x, y, z),
               (
-                left-read expsOf (readFrame sheet bits) exps exps' here t re,
-                (left-read bapOf (readFrame sheet bits) bap bap' here t rb, left-read codesOf (readFrame sheet bits) codes codes' here t rc),
+                left-read expsRead (readFrame sheet bits) exps exps' here t re,
+                (left-read bapRead (readFrame sheet bits) bap bap' here t rb, left-read codesRead (readFrame sheet bits) codes codes' here t rc),
               ),
             )

@@ -1,5 +1,3 @@
-pub mod Clearing
-pub mod Parts
 pub mod OnePart
 pub mod SetsTurns
 pub mod OneBlock

@@ -7,7 +7,7 @@ use native.Mathlib.Omega.{arith}
 use lib.ListN.{length, take, drop}
 use lib.Seq.{take-all}
 use Rattle.bits.specs.Parts.{piece, placed}
-use Rattle.bits.specs.PartsLaws.{within, part-long, placed-length}
+use Rattle.bits.specs.PartsLaws.{within, part-long, placed-length, place-front, part-old, place-rest}
 use Rattle.bits.specs.Read.{from}
 use Rattle.bits.specs.Reading.{ok, fault, gather, Came}
 use Rattle.bits.specs.ReadingLaws.{gather-start, gather-again, gather-fault}
@@ -15,9 +15,7 @@ use Rattle.bits.specs.Refusal as refusal
 use Rattle.bits.specs.declared.read.ReadEnd.{ReadEnd}
 use Rattle.frame.specs.Layout.{channels, endAt, strategyAt}
 use Rattle.frame.specs.Reader.{readPart, readSets}
-use Rattle.frame_rows.specs.RowsLaws.{part-old, place-rest}
 use Rattle.frame_reader.specs.Reading.{mostSet}
-use Rattle.frame_reader.proofs.Parts.{place-front}
 
 -- c channels were read, up to the position `at`; the parts behind them are still as they were
 pub record SetsRead (sheet : List ℕ) (b : ℕ) (old : List ℕ) (bits : List Bool) (pos c : ℕ) (row : List ℕ) (at : ℕ) : Type 0 where

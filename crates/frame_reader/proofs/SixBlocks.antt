@@ -1,5 +1,5 @@
 -- The six blocks as the code reads them: what the buffers hold after b blocks, and what one block more makes of it.
-use Prim.Native.Nat.{ℕ, zero, suc, _+_, _-_, _*_, _≤_, _<_}
+use Prim.Native.Nat.{ℕ, _+_, _-_, _*_, _≤_, _<_}
 use mathlib.Core.Path.{_≡_, refl, sym, ap, _∙_}
 use mathlib.Core.Bool.{Bool}
 use mathlib.Core.List.{List, _++_}
@@ -9,7 +9,7 @@ use native.Mathlib.Omega.{arith}
 use lib.ListN.{length, take, drop, getD, set, replicate, length-set, length-drop, length-replicate}
 use lib.Seq.{take-all, take-suc-set, getD-take, getD-drop}
 use Rattle.bits.specs.Parts.{piece, placed}
-use Rattle.bits.specs.PartsLaws.{within, placed-length}
+use Rattle.bits.specs.PartsLaws.{within, placed-length, place-front}
 use Rattle.bits.specs.Read.{from}
 use Rattle.bits.specs.Reading.{ok, fault, steps}
 use Rattle.bits.specs.ReadingLaws.{steps-start, steps-again, steps-fault}
@@ -21,9 +21,9 @@ use Rattle.frame.specs.Reader.{Frame, grown, readBlock, nothing, readFrame}
 use Rattle.frame.specs.Under.{channel-known}
 use Rattle.frame.specs.declared.answer.FrameAnswer.{FrameAnswer}
 use Rattle.frame_rows.specs.Rows.{LowRow}
+use Rattle.frame_rows.specs.RowsLaws.{zero-past}
 use Rattle.frame_reader.specs.Reading.{HeldRows, CameBlock, CameFrame, mostBlock}
 use Rattle.frame_reader.specs.declared.block.BlockEnd.{BlockEnd}
-use Rattle.frame_reader.proofs.Parts.{place-front}
 
 -- the first b blocks as the buffers hold them
 unfoldable pub heldFrame : ℕ → ℕ → List ℕ → List ℕ → List ℕ → List ℕ → List ℕ → List ℕ → Frame
@@ -51,11 +51,6 @@ pub record BlocksRead (sheet : List ℕ) (bits : List Bool) (b : ℕ) (exps bap 
 
 -- ---- no block yet
 
-zero-at : (n i : ℕ) → getD {A = ℕ} (replicate n 0) i 0 ≡ 0
-zero-at zero i = refl
-zero-at (suc n) zero = refl
-zero-at (suc n) (suc i) = zero-at n i
-
 zero-low : (sheet : List ℕ) → checkOf sheet ≡ refusal.accepted → (n : ℕ) → LowRow sheet (replicate n 0)
 unfolding piece
 zero-low sheet accepted n =
@@ -63,7 +58,7 @@ zero-low sheet accepted n =
       low = λ c h bin l.
           let inside : bin < 256 = omega (arith, channel-known sheet accepted c h .end-most) in
           let none : getD {A = ℕ} (take 256 (drop (256 * c) (replicate n 0))) bin 0 ≡ 0 =
-          getD-take {A = ℕ} 256 (drop (256 * c) (replicate n 0)) bin 0 inside ∙ getD-drop {A = ℕ} (256 * c) (replicate n 0) bin 0 ∙ zero-at n (256 * c + bin) in
+          getD-take {A = ℕ} 256 (drop (256 * c) (replicate n 0)) bin 0 inside ∙ getD-drop {A = ℕ} (256 * c) (replicate n 0) bin 0 ∙ zero-past n (256 * c + bin) in
           omega (arith, none);
     }
 

@@ -1,4 +1,4 @@
 pub mod Reading
 pub mod SetsLaws
-pub mod Readers
+pub mod ReadersLaws
 pub mod Theorems

@@ -1,4 +1,5 @@
--- How the code reads a body: what holds from block to block, and what a block's reading and the whole reading come to.
+-- What the three buffers take of a frame that was read, and how the code reads it: how many bits there can be, what holds from block to
+-- block, and what a block's reading and the whole reading come to.
 use Prim.Native.Nat.{ℕ, _+_, _*_, _≤_}
 use mathlib.Core.Path.{_≡_}
 use mathlib.Core.Bool.{Bool}
@@ -15,25 +16,30 @@ use Rattle.frame.specs.declared.answer.FrameAnswer.{FrameAnswer}
 use Rattle.frame_rows.specs.Rows.{LowRow}
 use Rattle.frame_reader.specs.declared.block.BlockEnd.{BlockEnd}
 
--- the parts of a frame that the call's buffers take
-abbrev pub expsOf : Frame → List ℕ
-expsOf frame = frame .exps
+-- ---- what the buffers for exponents, bap and codes take of a frame (frame/specs/Reader.antt)
 
-abbrev pub bapOf : Frame → List ℕ
-bapOf frame = frame .bap
+abbrev pub expsRead : Frame → List ℕ
+expsRead frame = frame .exps
 
-abbrev pub codesOf : Frame → List ℕ
-codesOf frame = frame .codes
+abbrev pub bapRead : Frame → List ℕ
+bapRead frame = frame .bap
 
--- no set has more bits than 4 and 84 groups, no row more than six sets, no block more than a row and 16 bits for each of 1,536 codes
+abbrev pub codesRead : Frame → List ℕ
+codesRead frame = frame .codes
+
+-- ---- how many bits there can be, so that positions fit
+
+-- the most of a set: 4, then 84 groups of 7 (end 253, D15)
 abbrev pub mostSet : ℕ
-mostSet = 592
+mostSet = 4 + 7 * 84
 
+-- of the sets of a block: one for each of six channels
 abbrev pub mostSets : ℕ
-mostSets = 3552
+mostSets = 6 * mostSet
 
+-- of a block: its sets, then at most 16 bits for each of 1,536 codes
 abbrev pub mostBlock : ℕ
-mostBlock = 28128
+mostBlock = mostSets + 16 * 1536
 
 -- ---- a block
 
@@ -62,6 +68,6 @@ pub record CameBlock (sheet : List ℕ) (b : ℕ) (old : List ℕ) (bits : List 
 -- the whole reading: its answer, and what the buffers hold where there was no fault
 pub record CameFrame (outcome : Outcome Frame) (bits : List Bool) (exps bap codes : List ℕ) (r : FrameAnswer) : Type 0 where
   pub answer : r ≡ readingOf bits outcome
-  pub exps-read : r .refusal ≡ refusal.accepted → (n : ℕ) → exps ≡ readInto expsOf n outcome
-  pub bap-read : r .refusal ≡ refusal.accepted → (n : ℕ) → bap ≡ readInto bapOf n outcome
-  pub codes-read : r .refusal ≡ refusal.accepted → (n : ℕ) → codes ≡ readInto codesOf n outcome
+  pub exps-read : r .refusal ≡ refusal.accepted → (n : ℕ) → exps ≡ readInto expsRead n outcome
+  pub bap-read : r .refusal ≡ refusal.accepted → (n : ℕ) → bap ≡ readInto bapRead n outcome
+  pub codes-read : r .refusal ≡ refusal.accepted → (n : ℕ) → codes ≡ readInto codesRead n outcome

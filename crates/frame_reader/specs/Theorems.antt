@@ -20,7 +20,7 @@ use Rattle.frame.specs.Layout.{channels}
 use Rattle.frame.specs.Legal.{LegalFrame}
 use Rattle.frame.specs.Reader.{Frame, readFrame, frameOf}
 use Rattle.frame.specs.Theorems.{body-reads-back}
-use Rattle.frame_reader.specs.Readers.{reader-frame}
+use Rattle.frame_reader.specs.ReadersLaws.{reader-frame}
 
 -- ---- each number is given only for its cause
 
@@ -104,11 +104,13 @@ same-front x y u e =
     sym (take-at x u (length x) refl) ∙ ap (take (length x)) e ∙ take-at y u (length x) (sym n)
 
 module _ (sheet : List ℕ) (front u v : List Bool) (frame : Frame) (e : readFrame sheet (front ++ u) ≡ ok frame u) where
+  -- the frame that was read of a front is read of it whatever follows
   pub read-front : readFrame sheet (front ++ v) ≡ ok frame v
   read-front =
       let f = reader-frame sheet .local (front ++ u) frame u e in
       rw (same-front front (f .front) u (f .here)) (f .reads .back v)
 
+  -- and the answer is the same: its bits are those that were used, not those that were there
   pub answer-front : (exps bap codes : ℕ) → readAnswer sheet (front ++ u) exps bap codes ≡ readAnswer sheet (front ++ v) exps bap codes
   unfolding readAnswer readingOf
   answer-front exps bap codes =

@@ -29,7 +29,7 @@ fn faulty(fault: u32, pos: usize) -> BlockEnd
 }
 
 // Block b at `pos`, after the rows of exponents and of bap that held before it; they become its own.
-pub fn get_block(
+pub(crate) fn get_block(
     sheet: &[u8],
     track: Track,
     strategies: [[u8; 6]; 6],

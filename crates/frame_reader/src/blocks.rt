@@ -33,7 +33,7 @@ fn twelve(sets: [u32; 6], streams: [u32; 6]) -> [u32; 12]
 }
 
 // The blocks up to the first fault. `row` and `held` have the exponents and the bap that hold when a block begins.
-pub fn get_blocks(
+pub(crate) fn get_blocks(
     sheet: &[u8],
     track: Track,
     strategies: [[u8; 6]; 6],
@@ -70,8 +70,8 @@ pub fn get_blocks(
         if r.fault != ACCEPTED {
             return frame::refused(r.fault);
         }
-        frame_rows::copy(row, &mut exps[a..e]);
-        frame_rows::copy(held, &mut bap[a..e]);
+        slices::copy(row, &mut exps[a..e]);
+        slices::copy(held, &mut bap[a..e]);
         sets[b] = r.sets;
         streams[b] = r.stream;
         at = r.pos;

@@ -6,28 +6,12 @@ use frame::FrameAnswer;
 use frame::Track;
 ghost use mathlib.Core.Path.{_≡_};
 ghost use Prim.Native.Nat.{_*_};
-ghost use lib.ListN.{length, replicate};
+ghost use lib.ListN.{length};
 ghost use Rattle.bits.specs.Field.{bitsOf};
 ghost use Rattle.frame.specs.Answers.{readAnswer, readLeft, reached, readingOf, readInto};
 ghost use Rattle.frame.specs.Reader.{readFrame};
 ghost use Rattle.frame.specs.Under.{Under};
-ghost use Rattle.frame_reader.specs.Reading.{CameFrame, expsOf, bapOf, codesOf};
-
-fn clear(to: &mut [u8])
-    ensures { λ _. ⌜ now (to .exit) ≡ replicate (length (now (to .entry))) 0 ⌝ }
-{
-    for i in 0..to.len() {
-        to[i] = 0;
-    }
-}
-
-fn clear_codes(codes: &mut [u16])
-    ensures { λ _. ⌜ now (codes .exit) ≡ replicate (length (now (codes .entry))) 0 ⌝ }
-{
-    for i in 0..codes.len() {
-        codes[i] = 0;
-    }
-}
+ghost use Rattle.frame_reader.specs.Reading.{CameFrame, expsRead, bapRead, codesRead};
 
 // The six blocks, with rows of its own for what holds from block to block.
 fn get_frame(
@@ -72,15 +56,15 @@ fn read_frame(
     requires { ⌜ Under (now sheet) track strategies ⌝ }
     requires { ⌜ (length (now exps) ≡ 256 * track .channels * 6) × (length (now bap) ≡ 256 * track .channels * 6) × (length (now codes) ≡ 256 * track .channels * 6) ⌝ }
     ensures { λ r. ⌜ r ≡ readingOf (bitsOf (now (input .entry))) (readFrame (now (sheet .entry)) (bitsOf (now (input .entry)))) ⌝ }
-    ensures { λ r. ⌜ now (exps .exit) ≡ readInto expsOf (length (now (exps .entry))) (readFrame (now (sheet .entry)) (bitsOf (now (input .entry)))) ⌝ }
-    ensures { λ r. ⌜ now (bap .exit) ≡ readInto bapOf (length (now (bap .entry))) (readFrame (now (sheet .entry)) (bitsOf (now (input .entry)))) ⌝ }
-    ensures { λ r. ⌜ now (codes .exit) ≡ readInto codesOf (length (now (codes .entry))) (readFrame (now (sheet .entry)) (bitsOf (now (input .entry)))) ⌝ }
+    ensures { λ r. ⌜ now (exps .exit) ≡ readInto expsRead (length (now (exps .entry))) (readFrame (now (sheet .entry)) (bitsOf (now (input .entry)))) ⌝ }
+    ensures { λ r. ⌜ now (bap .exit) ≡ readInto bapRead (length (now (bap .entry))) (readFrame (now (sheet .entry)) (bitsOf (now (input .entry)))) ⌝ }
+    ensures { λ r. ⌜ now (codes .exit) ≡ readInto codesRead (length (now (codes .entry))) (readFrame (now (sheet .entry)) (bitsOf (now (input .entry)))) ⌝ }
 {
     let r = get_frame(sheet, track, strategies, input, exps, bap, codes);
     if r.refusal != ACCEPTED {
-        clear(exps);
-        clear(bap);
-        clear_codes(codes);
+        slices::fill(exps, 0);
+        slices::fill(bap, 0);
+        slices::fill_codes(codes, 0);
         return r;
     }
     r
@@ -95,9 +79,9 @@ pub fn read_body(
     codes: &mut [u16],
 ) -> FrameAnswer
     ensures { λ r. ⌜ r ≡ readAnswer (now (sheet .entry)) (bitsOf (now (input .entry))) (length (now (exps .entry))) (length (now (bap .entry))) (length (now (codes .entry))) ⌝ }
-    ensures { λ _. ⌜ now (exps .exit) ≡ readLeft (reached (now (sheet .entry)) (length (now (exps .entry))) (length (now (bap .entry))) (length (now (codes .entry)))) expsOf (readFrame (now (sheet .entry)) (bitsOf (now (input .entry)))) (now (exps .entry)) ⌝ }
-    ensures { λ _. ⌜ now (bap .exit) ≡ readLeft (reached (now (sheet .entry)) (length (now (exps .entry))) (length (now (bap .entry))) (length (now (codes .entry)))) bapOf (readFrame (now (sheet .entry)) (bitsOf (now (input .entry)))) (now (bap .entry)) ⌝ }
-    ensures { λ _. ⌜ now (codes .exit) ≡ readLeft (reached (now (sheet .entry)) (length (now (exps .entry))) (length (now (bap .entry))) (length (now (codes .entry)))) codesOf (readFrame (now (sheet .entry)) (bitsOf (now (input .entry)))) (now (codes .entry)) ⌝ }
+    ensures { λ _. ⌜ now (exps .exit) ≡ readLeft (reached (now (sheet .entry)) (length (now (exps .entry))) (length (now (bap .entry))) (length (now (codes .entry)))) expsRead (readFrame (now (sheet .entry)) (bitsOf (now (input .entry)))) (now (exps .entry)) ⌝ }
+    ensures { λ _. ⌜ now (bap .exit) ≡ readLeft (reached (now (sheet .entry)) (length (now (exps .entry))) (length (now (bap .entry))) (length (now (codes .entry)))) bapRead (readFrame (now (sheet .entry)) (bitsOf (now (input .entry)))) (now (bap .entry)) ⌝ }
+    ensures { λ _. ⌜ now (codes .exit) ≡ readLeft (reached (now (sheet .entry)) (length (now (exps .entry))) (length (now (bap .entry))) (length (now (codes .entry)))) codesRead (readFrame (now (sheet .entry)) (bitsOf (now (input .entry)))) (now (codes .entry)) ⌝ }
 {
     let check = sheet::check_sheet(sheet);
     if check != ACCEPTED {

@@ -35,7 +35,7 @@ fn get_part(input: &[u8], pos: usize, strategy: u8, end: usize, part: &mut [u8])
 }
 
 // The row of block b.
-pub fn get_sets(
+pub(crate) fn get_sets(
     sheet: &[u8],
     track: Track,
     strategies: [[u8; 6]; 6],

@@ -18,7 +18,7 @@ use Rattle.frame.specs.Reader.{earlier}
 use Rattle.frame.specs.Legal.{expsLegal}
 use Rattle.frame.specs.LegalLaws.{part-repeats, part-shaped, legal-part}
 use Rattle.frame.specs.LayoutLaws.{take-clean, end-inside, piece-clean, length-row, bapPart-same, piece-bap}
-use Rattle.frame.specs.Under.{channel-known}
+use Rattle.frame.specs.Under.{first-new}
 use Rattle.frame_rows.specs.Rows.{LowRow, KeptBap}
 
 -- shaped exponents are at most 24
@@ -44,10 +44,6 @@ earlier-taken sheet exps accepted long b c hb hc =
     ∙ take-clean (endAt sheet c) (piece 256 c row) (end-inside sheet accepted row n c hc)
 
 module _ (sheet exps : List ℕ) (accepted : checkOf sheet ≡ refusal.accepted) (long : length exps ≡ 256 * channels sheet * 6) (legal : expsLegal sheet exps ≡ true) where
-  -- block 0 is never reuse
-  pub first-new : (c : ℕ) → c < channels sheet → strategyAt sheet 0 c ≡ 0 → ⊥
-  first-new c h z = omega (arith, channel-known sheet accepted c h .first)
-
   -- a new set is shaped
   pub new-shaped : (b c : ℕ) → b < 6 → c < channels sheet → (strategyAt sheet b c ≡ 0 → ⊥)
       → Shaped (spanFor (strategyAt sheet b c) - 1) (take (endAt sheet c) (piece 256 c (rowOf sheet b exps)))
@@ -65,7 +61,7 @@ module _ (sheet exps : List ℕ) (accepted : checkOf sheet ≡ refusal.accepted)
   low-new b c hb hc z = low-shaped _ (endAt sheet c) (piece 256 c (rowOf sheet b exps)) (new-shaped b c hb hc z)
 
   low-at : (b c : ℕ) → b < 6 → c < channels sheet → (bin : ℕ) → bin < endAt sheet c → getD (piece 256 c (rowOf sheet b exps)) bin 0 ≤ 24
-  low-at zero c hb hc = low-new 0 c hb hc (first-new c hc)
+  low-at zero c hb hc = low-new 0 c hb hc (first-new sheet accepted c hc)
   low-at (suc b) c hb hc = by-strategy (decLe (strategyAt sheet (suc b) c) 0) (low-at b c (omega arith) hc)
     where
       by-strategy : Dec (strategyAt sheet (suc b) c ≤ 0) → ((bin : ℕ) → bin < endAt sheet c → getD (piece 256 c (rowOf sheet b exps)) bin 0 ≤ 24)
@@ -79,7 +75,7 @@ module _ (sheet exps : List ℕ) (accepted : checkOf sheet ≡ refusal.accepted)
 
   -- what an allocation keeps: nothing in block 0, and after it what the block before has
   pub kept-first : (bap : List ℕ) → KeptBap sheet 0 (rowOf sheet 0 exps) bap
-  kept-first bap = record { kept = λ c hc z. absurd (first-new c hc z) }
+  kept-first bap = record { kept = λ c hc z. absurd (first-new sheet accepted c hc z) }
 
   pub kept-next : (b : ℕ) → suc b < 6 → KeptBap sheet (suc b) (rowOf sheet (suc b) exps) (bapRow sheet (rowOf sheet b exps))
   kept-next b hb =

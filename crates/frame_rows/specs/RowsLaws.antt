@@ -1,18 +1,13 @@
--- Laws of rows as the code fills them: a part still as it was, a part that is copied, and a part that is cleaned.
+-- Laws of rows as the code fills them: buffers that are all 0 at first, a part that is cleaned, the row that is lent, and the rows of a whole frame.
 use Prim.Native.Nat.{ℕ, zero, suc, _+_, _-_, _*_, _≤_, _<_}
-use mathlib.Core.Path.{_≡_, refl, sym, ap, _∙_}
-use mathlib.Core.Bool.{cond}
-use mathlib.Core.List.{List, _++_}
-use native.Mathlib.Numerals.{add-one}
-use native.Mathlib.Nat.{mul-add, mul-one}
-use native.Mathlib.Decide.{decLt}
+use mathlib.Core.Path.{_≡_, refl, ap, ap₂, _∙_}
+use mathlib.Core.List.{List, [], _++_, append-nil}
+use native.Mathlib.Nat.{sub-zero}
 use native.Mathlib.Omega.{arith}
-use lib.Dec.{ltb}
-use lib.ListN.{length, take, drop, getD, set, replicate, length-append, length-take, length-replicate, List·getD-append}
-use lib.Seq.{take-at, take-suc, take-suc-set, drop-drop, take-length, length-take-le, getD-take, getD-append-add}
-use borrow.Author.Tests.{lt-ltb, le-ltb}
+use lib.ListN.{length, take, drop, getD, replicate, length-append, length-take, length-drop, length-replicate, drop-of-length-le}
+use lib.Seq.{take-at, length-take-le, length-front}
 use Rattle.bits.specs.Parts.{joined, piece, placed}
-use Rattle.bits.specs.PartsLaws.{joined-length, piece-joined, placed-rest}
+use Rattle.bits.specs.PartsLaws.{joined-length, piece-joined, within, front-taken}
 use Rattle.bits.specs.Refusal as refusal
 use Rattle.sheet.specs.Sheet.{checkOf}
 use Rattle.frame.specs.Body.{bapRow}
@@ -21,106 +16,94 @@ use Rattle.frame.specs.LayoutLaws.{length-row, length-bapRow, length-cleanRow}
 use Rattle.frame.specs.Under.{Under, held-channels, channels-some}
 use Rattle.frame.specs.declared.track.Track.{Track}
 use Rattle.frame_rows.specs.Rows.{bapsOf, cleaned}
+pub use Rattle.frame_rows.specs.Rows.{noRow, noBuffer}
 
--- a row for six channels, all 0
-unfoldable pub noRow : List ℕ
-noRow = replicate 1536 0
+-- ---- buffers that are all 0
 
 pub length-noRow : length noRow ≡ 1536
 unfolding noRow
 length-noRow = length-replicate {A = ℕ} 1536 0
 
--- a buffer for six channels, all 0
-unfoldable pub noBuffer : List ℕ
-noBuffer = replicate 9216 0
-
 pub length-noBuffer : length noBuffer ≡ 9216
 unfolding noBuffer
 length-noBuffer = length-replicate {A = ℕ} 9216 0
 
--- ---- parts that are lent
-
--- a part that is still as it was
-pub part-old : (z i a k : ℕ) (l old : List ℕ) → a ≡ z * i → k ≡ z → drop (z * i) l ≡ drop (z * i) old → take k (drop a l) ≡ piece z i old
-unfolding piece
-part-old z i a k l old ea ek e = rw (ea, e, ek)
-
--- a part filled: what stands behind it is still as it was
-pub place-rest : (z i a k : ℕ) (l ys old : List ℕ) → a ≡ z * i → k ≡ z → z * i + z ≤ length l → length ys ≡ z → drop (z * i) l ≡ drop (z * i) old
-    → drop (z * (i + 1)) (placed a k l ys) ≡ drop (z * (i + 1)) old
-place-rest z i a k l ys old ea ek h n e =
-    let m : z * (i + 1) ≡ a + k = omega (arith, mul-add z i 1, mul-one z) in
-    let q : z * (i + 1) ≡ z * i + z = omega (arith, mul-add z i 1, mul-one z) in
-    let x : drop (a + k) (placed a k l ys) ≡ drop (a + k) l = placed-rest l ys a k (omega arith) (omega arith) in
-    let y : drop (z * (i + 1)) l ≡ drop (z * (i + 1)) old = rw (q, ← drop-drop z (z * i) l, e) (drop-drop z (z * i) old) in
-    rw m (x ∙ (rw m at y))
-
--- the front of a local array, filled and taken again
-pub front-taken : (n k : ℕ) (l ys : List ℕ) → k ≡ n → length ys ≡ n → take k (ys ++ drop k l) ≡ ys
-front-taken n k l ys e h = take-at ys (drop k l) k (h ∙ sym e)
-
--- a local buffer for six channels, its front lent for those of a sheet
-module _ (channels : ℕ) (l : List ℕ) (e : l ≡ noBuffer) (most : channels ≤ 6) where
-  buffer-long : length l ≡ 9216
-  buffer-long = ap length e ∙ length-noBuffer
-
-  pub front-lent : length (take (256 * channels * 6 - 0) l) ≡ 256 * channels * 6
-  front-lent = rw length-take (omega (arith, buffer-long))
-
-  -- what came back is ys
-  module _ (ys : List ℕ) (kept : length ys ≡ length (take (256 * channels * 6 - 0) l)) where
-    pub front-length : length ys ≡ 256 * channels * 6
-    front-length = kept ∙ front-lent
-
-    pub front-room : 256 * channels * 6 ≤ length (ys ++ drop (256 * channels * 6 - 0) l)
-    front-room = rw length-append (omega (arith, front-length))
-
-    pub front-filled : take (256 * channels * 6 - 0) (ys ++ drop (256 * channels * 6 - 0) l) ≡ ys
-    front-filled = front-taken (256 * channels * 6) (256 * channels * 6 - 0) l ys (omega arith) front-length
-
--- ---- entries that are copied
-
-pub copy-more : (x y : List ℕ) (i v : ℕ) → i < length x → i < length y → take i y ≡ take i x → v ≡ getD x i 0 → take (i + 1) (set y i v) ≡ take (i + 1) x
-copy-more x y i v h l e q = rw (add-one i, take-suc-set y i v l, take-suc x i 0 h, e, q)
-
-pub copy-end : (x y : List ℕ) (i n : ℕ) → i ≡ n → length x ≡ n → length y ≡ n → take i y ≡ take i x → y ≡ x
-copy-end x y i n q hx hy e =
-    sym (take-length y) ∙ ap (λ (m : ℕ). take m y) (hy ∙ sym q) ∙ e ∙ ap (λ (m : ℕ). take m x) (q ∙ sym hx) ∙ take-length x
-
--- ---- a clean part
-
-zero-past : (n i : ℕ) → getD {A = ℕ} (replicate n 0) i 0 ≡ 0
+-- an entry of zeros is 0, and so is what stands past them
+pub zero-past : (n i : ℕ) → getD {A = ℕ} (replicate n 0) i 0 ≡ 0
 zero-past zero i = refl
 zero-past (suc n) zero = refl
 zero-past (suc n) (suc i) = zero-past n i
 
--- its entries: those below end, and 0
-pub clean-at : (end bin : ℕ) (part : List ℕ) → end ≤ length part → getD (clean end part) bin 0 ≡ cond (ltb bin end) (getD part bin 0) 0
+-- ---- a local array whose first n entries are lent
+
+module _ (n : ℕ) (l ys : List ℕ) (fits : n ≤ length l) (kept : length ys ≡ length (take (n - 0) l)) where
+  -- what came back is ys, and the array is as long as before
+  pub back-length : length ys ≡ n
+  back-length = kept ∙ rw length-take (omega arith)
+
+  pub back-whole : length (ys ++ drop (n - 0) l) ≡ length l
+  back-whole = length-front l ys (n - 0) kept
+
+  pub back-taken : take (n - 0) (ys ++ drop (n - 0) l) ≡ ys
+  back-taken = front-taken n (n - 0) l ys (sub-zero n) back-length
+
+-- a buffer for six channels, lent for those of a sheet
+module _ (channels : ℕ) (l : List ℕ) (e : l ≡ noBuffer) (most : channels ≤ 6) where
+  buffer-fits : 256 * channels * 6 ≤ length l
+  buffer-fits = omega (arith, ap length e ∙ length-noBuffer)
+
+  pub front-lent : length (take (256 * channels * 6 - 0) l) ≡ 256 * channels * 6
+  front-lent = rw length-take (omega (arith, buffer-fits))
+
+  module _ (ys : List ℕ) (kept : length ys ≡ length (take (256 * channels * 6 - 0) l)) where
+    pub front-length : length ys ≡ 256 * channels * 6
+    front-length = back-length (256 * channels * 6) l ys buffer-fits kept
+
+    pub front-room : 256 * channels * 6 ≤ length (ys ++ drop (256 * channels * 6 - 0) l)
+    front-room = omega (arith, buffer-fits, back-whole (256 * channels * 6) l ys buffer-fits kept)
+
+    pub front-filled : take (256 * channels * 6 - 0) (ys ++ drop (256 * channels * 6 - 0) l) ≡ ys
+    front-filled = back-taken (256 * channels * 6) l ys buffer-fits kept
+
+-- ---- a clean part
+
+-- its entries below end copied, then the rest filled with 0
+pub clean-made : (end : ℕ) (codes to ys zs : List ℕ) → end ≤ 256 → length codes ≡ 256 → length to ≡ 256 → ys ≡ take (end - 0) codes
+    → zs ≡ replicate (length (take (256 - end) (drop end (ys ++ drop (end - 0) to)))) 0
+    → placed end (256 - end) (ys ++ drop (end - 0) to) zs ≡ clean end codes
 unfolding clean
-clean-at end bin part h = by-place (decLt bin end)
-  where
-    by-place : Dec (bin < end) → getD (take end part ++ replicate (256 - end) 0) bin 0 ≡ cond (ltb bin end) (getD part bin 0) 0
-    by-place (yes l) =
-        rw (lt-ltb bin end l)
-        (List·getD-append (take end part) (replicate (256 - end) 0) 0 bin (omega (arith, l, length-take-le end part h)) ∙ getD-take end part bin 0 l)
-    by-place (no l) =
-        let past : end ≤ bin = omega (arith, l) in
-        let place : bin ≡ length (take end part) + (bin - end) = omega (arith, past, length-take-le end part h) in
-        rw (le-ltb bin end past)
-        (ap (λ (n : ℕ). getD (take end part ++ replicate (256 - end) 0) n 0) place
-        ∙ getD-append-add (take end part) (replicate (256 - end) 0) (bin - end) 0
-        ∙ zero-past (256 - end) (bin - end))
+clean-made end codes to ys zs most codes-long to-long copied cleared =
+    let l = ys ++ drop (end - 0) to in
+    let here : ys ≡ take end codes = copied ∙ ap (λ (k : ℕ). take k codes) (sub-zero end) in
+    let n : length ys ≡ end = ap length here ∙ length-take-le end codes (omega arith) in
+    let long : length l ≡ 256 = rw (length-append, length-drop) (omega arith) in
+    let behind : length (drop end l) ≡ 256 - end = rw length-drop (omega (arith, long)) in
+    let zeros : zs ≡ replicate (256 - end) 0 =
+    cleared ∙ ap (λ (k : ℕ). replicate {A = ℕ} k 0) (length-take-le (256 - end) (drop end l) (omega (arith, behind))) in
+    let past : length (drop end l) ≤ 256 - end = omega (arith, behind) in
+    let none : drop (256 - end) (drop end l) ≡ [] = drop-of-length-le (drop end l) past in
+    ap₂ (λ (x y : List ℕ). x ++ y) (take-at ys (drop (end - 0) to) end n ∙ here) (ap₂ (λ (x y : List ℕ). x ++ y) zeros none ∙ append-nil (replicate (256 - end) 0))
 
 -- ---- what is held of a sheet
 
-pub held-most : {sheet : List ℕ} {track : Track} {strategies : List (List ℕ)} → Under sheet track strategies → track .channels ≤ 6
-held-most {sheet} u = omega (arith, held-channels u, channels-some sheet (u .accepted) .1)
+module _ {sheet : List ℕ} {track : Track} {strategies : List (List ℕ)} (u : Under sheet track strategies) where
+  pub held-most : track .channels ≤ 6
+  held-most = omega (arith, held-channels u, channels-some sheet (u .accepted) .1)
 
--- the row that is lent of a buffer
-pub row-lent : {sheet : List ℕ} {track : Track} {strategies : List (List ℕ)} → Under sheet track strategies → (b a k : ℕ) (l : List ℕ)
-    → a ≡ 256 * track .channels * b → k ≡ 256 * track .channels → take k (drop a l) ≡ rowOf sheet b l
-unfolding rowOf piece
-row-lent u b a k l ea ek = rw (ea, ek, held-channels u)
+  -- a channel's part lies within its row, and a row within its buffer
+  pub part-inside : (c : ℕ) → c < track .channels → (256 * c + 256 ≤ 256 * track .channels) × (track .channels ≤ 6)
+  part-inside c h = (within 256 c (track .channels) h, held-most)
+
+  pub row-inside : (b : ℕ) → b < 6 → (256 * track .channels * b + 256 * track .channels ≤ 256 * track .channels * 6) × (track .channels ≤ 6)
+  row-inside b h = (within (256 * track .channels) b 6 h, held-most)
+
+  -- the row that is lent of a buffer
+  pub row-lent : (b : ℕ) (l : List ℕ)
+      → take (256 * track .channels * b + 256 * track .channels - 256 * track .channels * b) (drop (256 * track .channels * b) l) ≡ rowOf sheet b l
+  unfolding rowOf piece
+  row-lent b l =
+      let all : 256 * channels sheet * b + 256 * channels sheet - 256 * channels sheet * b ≡ 256 * channels sheet = omega arith in
+      rw (held-channels u, all)
 
 -- ---- the rows of a whole frame
 

@@ -1,30 +1,22 @@
 // Codes without what stands from an end on, which is ignored (document 01, "The track sheet").
 ghost use mathlib.Core.Path.{_≡_};
-ghost use mathlib.Core.Bool.{cond};
 ghost use Prim.Native.Nat.{_*_, _≤_};
-ghost use lib.Dec.{ltb};
 ghost use lib.ListN.{length};
 ghost use Rattle.frame.specs.Layout.{clean, cleanRow};
 ghost use Rattle.frame.specs.Under.{Under};
 ghost use Rattle.frame_rows.specs.Rows.{cleaned};
 use frame::Track;
 
-// The code of a bin: 0 from end on.
-fn code_below(code: u16, bin: usize, end: usize) -> u16
-    ensures { λ r. ⌜ r ≡ cond (ltb bin end) code 0 ⌝ }
-{
-    if bin < end { code } else { 0 }
-}
-
+// A channel's codes below end, and 0 from there on.
 fn clean_part(codes: &[u16], end: usize, to: &mut [u16])
     requires { ⌜ (end ≤ 256) × (length (now codes) ≡ 256) × (length (now to) ≡ 256) ⌝ }
     ensures { λ _. ⌜ now (to .exit) ≡ clean end (now (codes .entry)) ⌝ }
 {
-    for bin in 0..256 {
-        to[bin] = code_below(codes[bin], bin, end);
-    }
+    slices::copy_codes(&codes[0..end], &mut to[0..end]);
+    slices::fill_codes(&mut to[end..256], 0);
 }
 
+// Those of a block.
 fn clean_row(sheet: &[u8], track: Track, strategies: [[u8; 6]; 6], codes: &[u16], to: &mut [u16])
     requires { ⌜ Under (now sheet) track strategies ⌝ }
     requires { ⌜ (length (now codes) ≡ 256 * track .channels) × (length (now to) ≡ 256 * track .channels) ⌝ }
@@ -38,6 +30,7 @@ fn clean_row(sheet: &[u8], track: Track, strategies: [[u8; 6]; 6], codes: &[u16]
     }
 }
 
+// Those of all six blocks.
 pub fn clean_codes(
     sheet: &[u8],
     track: Track,

@@ -10,8 +10,7 @@ ghost use Rattle.frame.specs.Layout.{endAt};
 ghost use Rattle.frame.specs.Legal.{expsLegal};
 ghost use Rattle.frame.specs.Under.{Under};
 ghost use Rattle.frame_rows.specs.Rows.{bapsOf, KeptBap, LowRow, PartReady};
-use crate::copies::copy;
-use crate::copies::no_row;
+use crate::zeros::no_row;
 use frame::Track;
 
 // A channel's part: left where its block is reuse, worked out where it has a new set.
@@ -72,6 +71,6 @@ pub fn allocate_body(
         let a = n * b;
         let e = a + n;
         allocate_row(sheet, track, strategies, b, &exps[a..e], &mut row[0..n]);
-        copy(&row[0..n], &mut bap[a..e]);
+        slices::copy(&row[0..n], &mut bap[a..e]);
     }
 }

@@ -10,7 +10,7 @@ use lib.Ieee.Scale.{finite}
 use lib.ListN.{length, take, drop, getD, set, drop-of-length-le}
 use lib.Seq.{drop-cons, drop-set-lt}
 use Rattle.shaping.specs.Extract.{exponentOf}
-use Rattle.frame_runs.specs.Filling.{stored, ended}
+use Rattle.frame_runs.specs.FillingLaws.{stored, ended}
 use Rattle.frame_runs.specs.Finite.{finitePart}
 use Rattle.frame_runs.specs.Runs.{exponentsOf, leastOf}
 

@@ -11,11 +11,11 @@ use Rattle.bits.specs.Parts.{piece}
 use Rattle.bits.specs.PartsLaws.{joined-cong, piece-joined}
 use Rattle.bits.specs.Refusal as refusal
 use Rattle.frame.specs.Layout.{channels, strategyAt}
-use Rattle.frame.specs.Under.{channel-known}
-use Rattle.frame_rows.specs.RowsLaws.{noRow}
+use Rattle.frame.specs.Under.{first-new}
+use Rattle.frame_rows.specs.Rows.{noRow}
 use Rattle.sheet.specs.Sheet.{checkOf}
 use Rattle.frame_runs.specs.Carried.{nextPart, nextRow, rowAt, rowBefore}
-use Rattle.frame_runs.specs.Lengths.{length-partAt}
+use Rattle.frame_runs.specs.LengthsLaws.{length-partAt}
 use Rattle.frame_runs.specs.Runs.{runPart, partAt}
 
 module _ (sheet : List ℕ) (coeffs : List Float) (c b : ℕ) (old : List ℕ) where
@@ -31,7 +31,7 @@ module _ (sheet : List ℕ) (coeffs : List Float) (c b : ℕ) (old : List ℕ) w
 module _ (sheet : List ℕ) (coeffs : List Float) (accepted : checkOf sheet ≡ refusal.accepted) (whole : length coeffs ≡ 256 * channels sheet * 6) where
   next-partAt : (b c : ℕ) → b < 6 → c < channels sheet → nextPart sheet coeffs b c (piece 256 c (rowBefore sheet coeffs b)) ≡ partAt sheet coeffs b c
   unfolding nextPart partAt rowBefore rowAt
-  next-partAt zero c hb hc = let first = channel-known sheet accepted c hc .first in rw (ne-eqb (strategyAt sheet 0 c) 0 (λ z. omega arith))
+  next-partAt zero c hb hc = rw (ne-eqb (strategyAt sheet 0 c) 0 (first-new sheet accepted c hc))
   next-partAt (suc b) c hb hc =
       rw (piece-joined 256 (partAt sheet coeffs b) (channels sheet) c (λ j l. length-partAt sheet coeffs accepted whole b j (omega arith) l) hc)
 

@@ -1,4 +1,5 @@
--- Which coefficients a frame may have (document 01, cause 3): each one below its channel's end is finite; entries from end on are ignored.
+-- Which coefficients a frame may have (document 01, "When a call is turned back", cause 3: "coefficient below end not finite"). Those from
+-- an end on are ignored.
 use Prim.Native.Nat.{ℕ, _*_}
 use mathlib.Core.Bool.{Bool, true, _&&_}
 use mathlib.Core.List.{List, [], _∷_}
@@ -10,14 +11,16 @@ use Rattle.frame.specs.Layout.{channels}
 use Rattle.sheet.specs.Ranges.{allBelow}
 use Rattle.frame_runs.specs.Runs.{belowEnd}
 
+-- each of these is finite
 unfoldable pub finitePart : List Float → Bool
 finitePart [] = true
 finitePart (x ∷ xs) = finite x && finitePart xs
 
--- those of block b
+-- each one of block b below its channel's end
 unfoldable pub finiteRow : List ℕ → List Float → ℕ → Bool
 finiteRow sheet coeffs b = allBelow (channels sheet) (λ c. finitePart (belowEnd sheet b c coeffs))
 
+-- each one of the six blocks; else cause 3
 unfoldable pub allFinite : List ℕ → List Float → Bool
 allFinite sheet coeffs = allBelow 6 (finiteRow sheet coeffs)
 

@@ -9,7 +9,8 @@ use lib.Ieee.{Float, nan}
 use lib.Ieee.Scale.{finite}
 use lib.ListN.{length, getD}
 use Rattle.frame.specs.Layout.{channels}
-use Rattle.sheet.specs.Tests.{both, all-below}
+use Rattle.bits.specs.Tests.{both}
+use Rattle.sheet.specs.Tests.{all-below}
 use Rattle.frame_runs.specs.Finite.{finitePart, finiteRow, allFinite}
 use Rattle.frame_runs.specs.Runs.{belowEnd}
 

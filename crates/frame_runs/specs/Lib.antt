@@ -1,11 +1,11 @@
 pub mod Runs
 pub mod Finite
+pub mod Carried
 pub mod FiniteLaws
 pub mod RunsLaws
-pub mod Lengths
-pub mod Filling
-pub mod TwoParts
+pub mod LengthsLaws
+pub mod FillingLaws
+pub mod TwoPartsLaws
 pub mod FramedLaws
-pub mod Carried
 pub mod CarriedLaws
 pub mod RunsLegal

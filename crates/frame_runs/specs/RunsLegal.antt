@@ -1,8 +1,8 @@
 -- The exponents that are worked out of coefficients are legal: each new set is shaped for its strategy, each reuse block repeats the
 -- block before, and there is nothing from an end on.
 use Prim.Native.Nat.{ℕ, zero, suc, _-_, _*_, _<_}
-use mathlib.Core.Bool.{Bool, true}
-use mathlib.Core.List.{List, [], _∷_, _++_}
+use mathlib.Core.Bool.{true}
+use mathlib.Core.List.{List, _++_}
 use mathlib.Core.Path.{_≡_, refl, sym, ap, _∙_}
 use native.Mathlib.Omega.{arith}
 use lib.Ieee.{Float}
@@ -12,33 +12,25 @@ use borrow.Author.Tests.{eq-eqb, ne-eqb}
 use Rattle.bits.specs.Parts.{piece}
 use Rattle.bits.specs.Refusal as refusal
 use Rattle.frame.specs.Layout.{channels, endAt, strategyAt, spanFor, rowOf, clean}
-use Rattle.frame.specs.Legal.{alike, partLegal, rowLegal, expsLegal}
+use Rattle.frame.specs.Legal.{partLegal, rowLegal, expsLegal}
+use Rattle.frame.specs.LegalLaws.{alike-itself}
 use Rattle.frame.specs.Reader.{earlier}
-use Rattle.frame.specs.Under.{channel-known, span-known}
+use Rattle.frame.specs.Under.{channel-known, span-known, first-new}
 use Rattle.frame_rows.specs.LegalLaws.{earlier-taken}
 use Rattle.frame_rows.specs.Rows.{cleaned}
 use Rattle.shaping.specs.Shaped.{shapedFor, shaped-of}
 use Rattle.shaping.specs.ShapedLaws.{run-shaped}
-use Rattle.sheet.specs.Ranges.{allBelow}
 use Rattle.sheet.specs.Sheet.{checkOf}
+use Rattle.sheet.specs.Tests.{all-hold}
 use Rattle.frame_runs.specs.FramedLaws.{length-framed, part-framed, framed-clean}
-use Rattle.frame_runs.specs.Lengths.{length-runLeast, length-runExponents, length-partAt}
+use Rattle.frame_runs.specs.LengthsLaws.{length-runLeast, length-runExponents, length-partAt}
 use Rattle.frame_runs.specs.Runs.{runLeast, runExponents, runPart, partAt, expsOf}
 
 -- ---- tests that hold
 
-pub all-hold : (n : ℕ) (f : ℕ → Bool) → ((i : ℕ) → i < n → f i ≡ true) → allBelow n f ≡ true
-all-hold zero f h = refl
-all-hold (suc n) f h = rw (all-hold n f (λ i l. h i (omega arith)), h n (omega arith))
-
-repeated : (x : List ℕ) → alike x x ≡ true
-unfolding alike
-repeated [] = refl
-repeated (x ∷ xs) = rw (eq-eqb x x refl) (repeated xs)
-
 legal-reuse : (s end : ℕ) (old part : List ℕ) → s ≡ 0 → take end old ≡ take end part → partLegal s end old part ≡ true
 unfolding partLegal
-legal-reuse zero end old part z e = rw e (repeated (take end part))
+legal-reuse zero end old part z e = rw e (alike-itself (take end part))
 legal-reuse (suc s) end old part z e = absurd (omega arith)
 
 legal-new : (s end : ℕ) (old part : List ℕ) → (s ≡ 0 → ⊥) → shapedFor (spanFor s - 1) (take end part) ≡ true → partLegal s end old part ≡ true
@@ -66,9 +58,6 @@ module _ (sheet : List ℕ) (coeffs : List Float) (accepted : checkOf sheet ≡ 
         legal-new (strategyAt sheet b c) (endAt sheet c) old (runPart sheet coeffs b c) new
         (rw run-taken (shaped-of _ _ (run-shaped (spanFor (strategyAt sheet b c)) (runLeast sheet coeffs b c) (span-known (strategyAt sheet b c) new) (omega arith))))
 
-  first-new : (c : ℕ) → c < channels sheet → strategyAt sheet 0 c ≡ 0 → ⊥
-  first-new c hc z = let first = channel-known sheet accepted c hc .first in omega arith
-
   by-strategy : {X : Type 0} (s : ℕ) → (s ≡ 0 → X) → ((s ≡ 0 → ⊥) → X) → X
   by-strategy zero reuse new = reuse refl
   by-strategy (suc s) reuse new = new (λ z. omega arith)
@@ -83,7 +72,7 @@ module _ (sheet : List ℕ) (coeffs : List Float) (accepted : checkOf sheet ≡ 
   new-part (suc b) c new = rw (ne-eqb _ _ new)
 
   part-clean : (b c : ℕ) → b < 6 → c < channels sheet → clean (endAt sheet c) (partAt sheet coeffs b c) ≡ partAt sheet coeffs b c
-  part-clean zero c hb hc = rw (new-part 0 c (first-new c hc)) (run-clean 0 c hb hc)
+  part-clean zero c hb hc = rw (new-part 0 c (first-new sheet accepted c hc)) (run-clean 0 c hb hc)
   part-clean (suc b) c hb hc =
       by-strategy (strategyAt sheet (suc b) c)
       (λ z. rw (reuse-part b c z) (part-clean b c (omega arith) hc))
@@ -109,7 +98,7 @@ module _ (sheet : List ℕ) (coeffs : List Float) (accepted : checkOf sheet ≡ 
 
   part-legal : (b c : ℕ) → b < 6 → c < channels sheet
       → partLegal (strategyAt sheet b c) (endAt sheet c) (piece 256 c (earlier sheet (expsOf sheet coeffs) b)) (partAt sheet coeffs b c) ≡ true
-  part-legal zero c hb hc = rw (new-part 0 c (first-new c hc)) (run-legal 0 c hb hc _ (first-new c hc))
+  part-legal zero c hb hc = rw (new-part 0 c (first-new sheet accepted c hc)) (run-legal 0 c hb hc _ (first-new sheet accepted c hc))
   part-legal (suc b) c hb hc =
       let exps = expsOf sheet coeffs in
       by-strategy (strategyAt sheet (suc b) c)

@@ -2,7 +2,7 @@
 ghost use mathlib.Core.Path.{_≡_};
 ghost use mathlib.Core.Bool.{true};
 ghost use Prim.Native.Nat.{_-_, _<_, _≤_, min};
-ghost use lib.ListN.{length, replicate};
+ghost use lib.ListN.{length};
 ghost use Rattle.frame.specs.Layout.{channels, endAt};
 ghost use Rattle.frame.specs.Under.{Under};
 ghost use Rattle.frame_runs.specs.Finite.{finitePart, Encodable};
@@ -38,16 +38,6 @@ fn lower_part(coeffs: &[f32], part: &mut [u8])
     let mut i = 0;
     while i < part.len() {
         part[i] = least(part[i], shaping::exponent_of(coeffs[i]));
-        i += 1;
-    }
-}
-
-fn clear(part: &mut [u8])
-    ensures { λ _. ⌜ now (part .exit) ≡ replicate (length (now (part .entry))) 0 ⌝ }
-{
-    let mut i = 0;
-    while i < part.len() {
-        part[i] = 0;
         i += 1;
     }
 }
@@ -138,7 +128,7 @@ fn begin_run(
 {
     let end = track.ends[c];
     run_exponents(sheet, track, strategies, coeffs, b, c, &mut part[0..end]);
-    clear(&mut part[end..256]);
+    slices::fill(&mut part[end..256], 0);
 }
 
 // A channel's part of block b, over that of the block before: a reuse block leaves it.

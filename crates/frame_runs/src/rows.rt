@@ -9,7 +9,6 @@ ghost use Rattle.frame_runs.specs.Runs.{expsOf};
 ghost use Rattle.frame_runs.specs.Carried.{nextRow};
 use crate::part::next_part;
 use frame::Track;
-use frame_rows::copy;
 use frame_rows::no_row;
 
 // Block b, over the block before.
@@ -51,6 +50,6 @@ pub fn fill_exponents(
         next_row(sheet, track, strategies, coeffs, b, &mut row[0..n]);
         let a = n * b;
         let e = a + n;
-        copy(&row[0..n], &mut exps[a..e]);
+        slices::copy(&row[0..n], &mut exps[a..e]);
     }
 }

@@ -1,3 +1,4 @@
 pub mod Tests
-pub mod Answers
+pub mod TestsLaws
+pub mod AnswersLaws
 pub mod Theorems

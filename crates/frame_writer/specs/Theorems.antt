@@ -2,7 +2,7 @@
 -- refusal is given only for its cause.
 use Prim.Native.Nat.{ℕ, _≤_}
 use mathlib.Core.Path.{_≡_, refl, sym, _∙_}
-use mathlib.Core.Bool.{Bool, true, false, not, cond, _&&_}
+use mathlib.Core.Bool.{false, _&&_}
 use mathlib.Core.List.{List}
 use native.Mathlib.Omega.{arith}
 use lib.ListN.{length}
@@ -13,14 +13,14 @@ use Rattle.sheet.specs.Grammar.{structured}
 use Rattle.sheet.specs.Layout.{bufferLength}
 use Rattle.sheet.specs.Ranges.{inRange}
 use Rattle.sheet.specs.Sheet.{checkOf}
-use Rattle.frame.specs.Answers.{gives, must, fits, hasRoom, writeAnswer}
+use Rattle.frame.specs.Answers.{gives, fits, hasRoom, writeAnswer}
+use Rattle.frame.specs.AnswersLaws.{must-says, check-says}
 use Rattle.frame.specs.Body.{bodyBits, countsOf}
 use Rattle.frame.specs.Layout.{channels}
 use Rattle.frame.specs.Legal.{expsLegal, codesLegal, LegalFrame}
-use Rattle.frame.specs.declared.answer.FrameAnswer.{FrameAnswer}
-use Rattle.frame_writer.specs.Answers.{Sized, write-done}
+use Rattle.frame_writer.specs.AnswersLaws.{Sized, write-done}
 
--- NEVER REFUSED
+-- NEVER REFUSED: a legal frame whose buffers have the sheet's length and whose body is not longer than the output
 pub legal-written : (sheet exps codes : List ℕ) (size : ℕ) → checkOf sheet ≡ refusal.accepted
     → length exps ≡ bufferLength (channels sheet) → length codes ≡ bufferLength (channels sheet) → LegalFrame sheet exps codes
     → bytesFor (length (bodyBits sheet exps codes)) ≤ size
@@ -30,17 +30,6 @@ legal-written sheet exps codes size accepted exps-long codes-long legal room =
     sym (write-done sheet exps codes size sized legal _ _ refl refl room)
 
 -- ---- each refusal only for its cause
-
-must-says : {X : Type 0} (t : Bool) (k m : ℕ) (a : FrameAnswer) → must t k a .refusal ≡ m → (t ≡ false → k ≡ m → X) → (t ≡ true → a .refusal ≡ m → X) → X
-must-says true k m a e stop go = go refl e
-must-says false k m a e stop go = stop refl e
-
--- what number the check of a sheet may give, and for what
-check-says : {X : Type 0} (s r : Bool) (m : ℕ) → cond (not s) refusal.structure (cond (not r) refusal.outOfRange refusal.accepted) ≡ m
-    → (s ≡ false → 1 ≡ m → X) → (r ≡ false → 2 ≡ m → X) → (0 ≡ m → X) → X
-check-says false r m e a b c = a refl e
-check-says true false m e a b c = b refl e
-check-says true true m e a b c = c e
 
 module _ (sheet exps codes : List ℕ) (size : ℕ) where
   -- the tests one after the other, down to the one that gave the number m

@@ -64,7 +64,7 @@ fn block_before(b: usize) -> usize
     if b == 0 { 0 } else { b - 1 }
 }
 
-// Cause 4.
+// Cause 4: the exponents of all six blocks.
 pub(crate) fn exps_legal(sheet: &[u8], track: Track, strategies: [[u8; 6]; 6], exps: &[u8]) -> bool
     requires { ⌜ Under (now sheet) track strategies ⌝ }
     requires { ⌜ length (now exps) ≡ 256 * track .channels * 6 ⌝ }
@@ -82,7 +82,7 @@ pub(crate) fn exps_legal(sheet: &[u8], track: Track, strategies: [[u8; 6]; 6], e
     all
 }
 
-// Cause 5, with the bap of all blocks; the codes are clean.
+// Cause 5: the codes of all six blocks under their bap; from each end on they are 0.
 pub(crate) fn codes_legal(
     sheet: &[u8],
     track: Track,

@@ -74,7 +74,7 @@ fn write_shaped(
     write_legal(sheet, track, strategies, exps, bap, &clean[0..n], out)
 }
 
-// Buffers of the right length: the exponents are tested next, and what a run's allocation is.
+// Buffers of the right length: the exponents are tested next, and their bap is worked out.
 fn write_sized(
     sheet: &[u8],
     track: Track,

@@ -1,64 +1,63 @@
--- What an entry for hosts answers, given the answer of the call behind it. A result slice has exactly one entry; another length is a wrong length,
--- which stands in document 01's order after 1 and 2 and before 3. On every refusal a result slice of one entry holds 0.
+-- What the entries for hosts answer and leave, given what the call behind each of them answers (document 01, "When a call is turned back").
+-- An entry returns an exponent, a strategy, codes or counts in a small result slice, which must have exactly its length: another is a wrong
+-- length (10), and the call is not made. In the table's order that stands after 1 and 2 and before all others. On every refusal a result
+-- slice of its length holds 0.
 use mathlib.Core.Bool.{Bool, cond, not, _&&_}
-use mathlib.Core.List.{List, [], _∷_}
-use Prim.Native.Nat.{ℕ, _/_, _%_}
+use mathlib.Core.List.{List, []}
+use Prim.Native.Nat.{ℕ, _*_}
 use lib.Dec.{eqb, ltb}
 use lib.ListN.{length, getD, replicate}
 use Rattle.allocation.specs.Allocation.{answerOf, leftIn}
-use Rattle.bits.specs.Parts.{joined, tab}
+use Rattle.bits.specs.Parts.{joined}
 use Rattle.bits.specs.Refusal as refusal
-use Rattle.bits.specs.declared.answer.Answer.{Answer}
 use Rattle.shaping.specs.Strategies.{selectRefusal, selected}
 use Rattle.sheet.specs.Common.{commonOf, channelsOf}
 use Rattle.sheet.specs.Record.{recordOf}
 use Rattle.sheet.specs.Sheet.{checkOf}
 
--- a call that refuses neither with 1 nor with 2: the result slice of n entries is looked at first
-unfoldable pub lengthFirst : ℕ → Answer → ℕ
-lengthFirst n a = cond (eqb n 1) (a .refusal) refusal.wrongLength
+-- a result slice has its n entries
+abbrev pub hasLength : ℕ → List ℕ → Bool
+hasLength n slot = eqb (length slot) n
 
--- a call that refuses with 2 where its numbers are not in range: that comes before the length
-unfoldable pub rangeFirst : Bool → ℕ → Answer → ℕ
-rangeFirst inRange n a = cond (eqb n 1) (a .refusal) (cond inRange refusal.wrongLength refusal.outOfRange)
+-- ---- the number, where `right` says that each result slice has its length
 
--- the result slice afterwards
-unfoldable pub returned : ℕ → List ℕ → List ℕ
-returned value slot = cond (eqb (length slot) 1) (value ∷ []) slot
+-- of a call that refuses neither with 1 nor with 2
+unfoldable pub lengthFirst : Bool → ℕ → ℕ
+lengthFirst right number = cond right number refusal.wrongLength
 
--- a buffer of the call, which is not called where the result slice has a wrong length
-unfoldable pub ifCalled : ℕ → List ℕ → List ℕ → List ℕ
-ifCalled n after before = cond (eqb n 1) after before
+-- of a call that refuses with 2 where its numbers are not in range
+unfoldable pub rangeFirst : Bool → Bool → ℕ → ℕ
+rangeFirst inRange right number = cond right number (cond inRange refusal.wrongLength refusal.outOfRange)
 
--- ---- six counts under a sheet: 1 and 2 come before the length
+-- of a call that takes a sheet
+unfoldable pub sheetFirst : List ℕ → Bool → ℕ → ℕ
+sheetFirst sheet right number = cond right number (cond (eqb (checkOf sheet) refusal.accepted) refusal.wrongLength (checkOf sheet))
 
-unfoldable pub sheetFirst : List ℕ → ℕ → ℕ → ℕ
-sheetFirst sheet n number =
-    cond (eqb n 6) number (cond (eqb (checkOf sheet) refusal.accepted) refusal.wrongLength (checkOf sheet))
+-- ---- what is left
 
-unfoldable pub returnedSix : List ℕ → List ℕ → List ℕ
-returnedSix values slot = cond (eqb (length slot) 6) values slot
+-- a result slice for n values: these, or as it was where it has another length
+unfoldable pub returned : ℕ → List ℕ → List ℕ → List ℕ
+returned n values slot = cond (hasLength n slot) values slot
 
--- ---- strategies, channel by block: a channel count or an end out of range comes before the length, which is six for each channel
+-- a buffer of the call, or one of the values that it returns: as the call leaves it, or `before` where the call is not made
+unfoldable pub ifCalled : Bool → List ℕ → List ℕ → List ℕ
+ifCalled right after before = cond right after before
 
--- the first rows of a table of six columns, one after the other
+-- ---- the strategies of all channels: six entries for each channel, channel by block
+
+unfoldable pub selectNumber : List ℕ → List ℕ → Bool → ℕ
+selectNumber exps ends right = rangeFirst (not (eqb (selectRefusal exps ends) refusal.outOfRange)) right (selectRefusal exps ends)
+
+-- the first rows of a table, one after the other
 unfoldable pub rowsOf : List (List ℕ) → ℕ → List ℕ
-rowsOf table rows = joined rows (λ c. tab 6 (λ b. getD (getD table c []) b 0))
+rowsOf table rows = joined rows (λ c. getD table c [])
 
-abbrev pub sixEach : ℕ → List ℕ → Bool
-sixEach n ends = eqb (n % 6) 0 && eqb (n / 6) (length ends)
+-- what is returned: a row for each channel, or 0
+unfoldable pub selectRows : List ℕ → List ℕ → List ℕ
+selectRows exps ends =
+    cond (eqb (selectRefusal exps ends) refusal.accepted) (rowsOf (selected exps ends) (length ends)) (replicate (6 * length ends) 0)
 
-unfoldable pub selectNumber : List ℕ → List ℕ → ℕ → ℕ
-selectNumber exps ends n =
-    cond (sixEach n ends) (selectRefusal exps ends) (cond (eqb (selectRefusal exps ends) refusal.outOfRange) refusal.outOfRange refusal.wrongLength)
-
-unfoldable pub selectRows : List ℕ → List ℕ → List ℕ → List ℕ
-selectRows exps ends slot =
-    cond (sixEach (length slot) ends)
-    (cond (eqb (selectRefusal exps ends) refusal.accepted) (rowsOf (selected exps ends) (length ends)) (replicate (length slot) 0))
-    slot
-
--- ---- the allocation of a channel of a sheet: the sheet is looked at, then whether it has that channel; then the call, with the channel's end
+-- ---- the allocation of a channel of a sheet: the sheet, then whether it has that channel; then the call, with the channel's end
 
 unfoldable pub allocationNumber : List ℕ → ℕ → List ℕ → ℕ → ℕ
 allocationNumber sheet channel exp size =
@@ -72,3 +71,8 @@ allocationLeft sheet channel exp bap =
     cond (not (eqb (checkOf sheet) refusal.accepted)) bap
     (cond (not (ltb channel (channelsOf (commonOf sheet)))) bap
     (leftIn (commonOf sheet) (recordOf sheet channel) (recordOf sheet channel .end) exp bap))
+
+-- ---- the frame's reader: twelve counts, and the number of bits
+
+unfoldable pub rightSlots : List ℕ → List ℕ → Bool
+rightSlots counts bits = hasLength 12 counts && hasLength 1 bits

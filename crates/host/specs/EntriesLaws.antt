@@ -1,30 +1,27 @@
 -- Laws of the entries: one for each way through them.
-use mathlib.Core.Path.{_≡_, refl, sym, ap, _∙_}
-use mathlib.Core.Bool.{Bool, true, false, not, cond}
-use mathlib.Core.List.{List, [], _∷_, _++_}
-use Prim.Native.Nat.{ℕ, zero, suc, _+_, _≤_, _<_}
+use mathlib.Core.Path.{_≡_, refl, ap, _∙_}
+use mathlib.Core.Bool.{Bool, true, false, _&&_}
+use mathlib.Core.List.{List, [], _∷_}
+use Prim.Native.Nat.{ℕ, _*_, _/_, _%_, _≤_, _<_}
 use native.Mathlib.Omega.{arith}
-use borrow.Author.Tests.{eq-eqb, ne-eqb, lt-ltb, le-ltb}
-use native.Mathlib.Numerals.{add-one}
+use borrow.Author.Tests.{eqb-true, eqb-false, eq-eqb, ne-eqb, lt-ltb, le-ltb}
 use lib.Dec.{eqb}
-use lib.ListN.{length, getD, set, take, replicate}
-use lib.Seq.{take-suc, take-suc-set, take-all}
+use lib.ListN.{length, set, replicate}
 use Rattle.allocation.specs.Allocation.{answerOf, leftIn}
 use Rattle.bits.specs.Answer.{outputOf}
-use Rattle.bits.specs.Parts.{joined, tab}
-use Rattle.bits.specs.PartsLaws.{length-tab}
 use Rattle.bits.specs.Refusal as refusal
 use Rattle.bits.specs.declared.answer.Answer.{Answer}
-use Rattle.mantissas.specs.Blocks.{blockBaps, noBits, blocksAnswer, totalAnswer}
-use Rattle.mantissas.specs.Stream.{bapsFit, bitCount}
+use Rattle.frame.specs.Answers.{bodyLeft}
+use Rattle.frame.specs.declared.answer.FrameAnswer.{FrameAnswer}
+use Rattle.frame_encoder.specs.Encode.{left}
+use Rattle.mantissas.specs.State.{by-bool}
 use Rattle.shaping.specs.Strategies.{selectRefusal, selected}
 use Rattle.sheet.specs.Common.{commonOf, channelsOf}
-use Rattle.sheet.specs.Layout.{bufferLength}
-use Rattle.sheet.specs.Record.{endsOf, recordOf}
+use Rattle.sheet.specs.Record.{recordOf}
 use Rattle.sheet.specs.Sheet.{checkOf}
 use Rattle.sheet.specs.declared.common_part.Common.{Common}
 use Rattle.sheet.specs.declared.record.ChannelRecord.{ChannelRecord}
-use Rattle.host.specs.Entries.{lengthFirst, rangeFirst, returned, ifCalled, sheetFirst, returnedSix, rowsOf, sixEach, selectNumber, selectRows, allocationNumber, allocationLeft}
+use Rattle.host.specs.Entries.{lengthFirst, rangeFirst, sheetFirst, returned, ifCalled, selectNumber, rowsOf, selectRows, allocationNumber, allocationLeft, rightSlots}
 
 -- a store to the one entry
 pub set-one : (l : List ℕ) (v : ℕ) → length l ≡ 1 → set l 0 v ≡ v ∷ []
@@ -32,129 +29,165 @@ set-one [] v h = absurd (omega arith)
 set-one (x ∷ []) v h = refl
 set-one (x ∷ y ∷ l) v h = absurd (omega arith)
 
-module _ (n : ℕ) (a : Answer) where
-  pub wrong-length : (n ≡ 1 → ⊥) → refusal.wrongLength ≡ lengthFirst n a
+-- ---- the number
+
+module _ (right : Bool) (number : ℕ) where
+  pub length-wrong : right ≡ false → refusal.wrongLength ≡ lengthFirst right number
   unfolding lengthFirst
-  wrong-length h = rw (ne-eqb n 1 h)
+  length-wrong e = rw e
 
-  pub right-length : n ≡ 1 → a .refusal ≡ lengthFirst n a
+  length-right : right ≡ true → number ≡ lengthFirst right number
   unfolding lengthFirst
-  right-length h = rw (eq-eqb n 1 h)
+  length-right e = rw e
 
-  pub range-length : (inRange : Bool) → (n ≡ 1 → ⊥) → inRange ≡ true → refusal.wrongLength ≡ rangeFirst inRange n a
-  unfolding rangeFirst
-  range-length inRange h e = rw (ne-eqb n 1 h, e)
+  module _ (inRange : Bool) where
+    pub range-length : right ≡ false → inRange ≡ true → refusal.wrongLength ≡ rangeFirst inRange right number
+    unfolding rangeFirst
+    range-length e h = rw (e, h)
 
-  pub range-fault : (inRange : Bool) → (n ≡ 1 → ⊥) → inRange ≡ false → refusal.outOfRange ≡ rangeFirst inRange n a
-  unfolding rangeFirst
-  range-fault inRange h e = rw (ne-eqb n 1 h, e)
+    pub range-fault : right ≡ false → inRange ≡ false → refusal.outOfRange ≡ rangeFirst inRange right number
+    unfolding rangeFirst
+    range-fault e h = rw (e, h)
 
-  pub range-called : (inRange : Bool) → n ≡ 1 → a .refusal ≡ rangeFirst inRange n a
-  unfolding rangeFirst
-  range-called inRange h = rw (eq-eqb n 1 h)
+    range-right : right ≡ true → number ≡ rangeFirst inRange right number
+    unfolding rangeFirst
+    range-right e = rw e
 
-pub left : (v : ℕ) (slot : List ℕ) → (length slot ≡ 1 → ⊥) → slot ≡ returned v slot
-unfolding returned
-left v slot h = rw (ne-eqb (length slot) 1 h)
+  module _ (sheet : List ℕ) where
+    pub sheet-fault : right ≡ false → (checkOf sheet ≡ refusal.accepted → ⊥) → checkOf sheet ≡ sheetFirst sheet right number
+    unfolding sheetFirst
+    sheet-fault e h = rw (e, ne-eqb (checkOf sheet) refusal.accepted h)
 
-pub held : (v : ℕ) (slot slot' : List ℕ) → length slot ≡ 1 → slot' ≡ v ∷ [] → slot' ≡ returned v slot
-unfolding returned
-held v slot slot' h e = rw (eq-eqb (length slot) 1 h) e
+    pub sheet-length : right ≡ false → checkOf sheet ≡ refusal.accepted → refusal.wrongLength ≡ sheetFirst sheet right number
+    unfolding sheetFirst
+    sheet-length e h = rw (e, eq-eqb (checkOf sheet) refusal.accepted h)
 
-pub not-called : (n : ℕ) (after before : List ℕ) → (n ≡ 1 → ⊥) → before ≡ ifCalled n after before
-unfolding ifCalled
-not-called n after before h = rw (ne-eqb n 1 h)
+    -- where a result slice is wrong the call's number does not matter
+    pub sheet-wrong : (r : ℕ) → right ≡ false → r ≡ sheetFirst sheet false 0 → r ≡ sheetFirst sheet right number
+    unfolding sheetFirst
+    sheet-wrong r e q = q ∙ rw e
 
-pub called : (n : ℕ) (after after' before : List ℕ) → n ≡ 1 → after' ≡ after → after' ≡ ifCalled n after before
-unfolding ifCalled
-called n after after' before h e = rw (eq-eqb n 1 h) e
+    pub sheet-right : right ≡ true → number ≡ sheetFirst sheet right number
+    unfolding sheetFirst
+    sheet-right e = rw e
 
-pub called-output : (n : ℕ) (a b : Answer) (bits : List Bool) (o o' : List ℕ) → n ≡ 1 → a ≡ b → o' ≡ outputOf a bits o
-    → o' ≡ ifCalled n (outputOf b bits o) o
-called-output n a b bits o o' h e q = called n (outputOf b bits o) o' o h (q ∙ ap (λ (x : Answer). outputOf x bits o) e)
+-- ---- what is left
 
--- ---- a list copied entry by entry
+module _ (n : ℕ) (values slot : List ℕ) where
+  pub slot-left : (length slot ≡ n → ⊥) → slot ≡ returned n values slot
+  unfolding returned
+  slot-left h = rw (ne-eqb (length slot) n h)
 
-pub copied-more : (l vs : List ℕ) (i : ℕ) → i < length vs → length l ≡ length vs → take i l ≡ take i vs
-    → take (i + 1) (set l i (getD vs i 0)) ≡ take (i + 1) vs
-copied-more l vs i h n e = rw (add-one i, take-suc-set l i (getD vs i 0) (omega arith), e) (sym (take-suc vs i 0 h))
+  pub slot-holds : (slot' : List ℕ) → length slot ≡ n → slot' ≡ values → slot' ≡ returned n values slot
+  unfolding returned
+  slot-holds slot' h e = rw (eq-eqb (length slot) n h) e
 
-pub copied-all : (l vs : List ℕ) (i : ℕ) → length vs ≤ i → length l ≡ length vs → take i l ≡ take i vs → l ≡ vs
-copied-all l vs i h n e = sym (take-all i l (omega arith)) ∙ e ∙ take-all i vs h
+module _ (right : Bool) (after before : List ℕ) where
+  pub not-called : right ≡ false → before ≡ ifCalled right after before
+  unfolding ifCalled
+  not-called e = rw e
 
--- ---- six counts under a sheet
+  pub called : (now' : List ℕ) → right ≡ true → now' ≡ after → now' ≡ ifCalled right after before
+  unfolding ifCalled
+  called now' e q = q ∙ rw e
 
-module _ (sheet : List ℕ) (n number : ℕ) where
-  pub sheet-fault : (n ≡ 6 → ⊥) → (checkOf sheet ≡ refusal.accepted → ⊥) → checkOf sheet ≡ sheetFirst sheet n number
-  unfolding sheetFirst
-  sheet-fault h k = rw (ne-eqb n 6 h, ne-eqb (checkOf sheet) 0 k)
+module _ (right : Bool) (bits : List Bool) (before now' : List ℕ) (e : right ≡ true) where
+  pub called-output : (a b : Answer) → a ≡ b → now' ≡ outputOf a bits before → now' ≡ ifCalled right (outputOf b bits before) before
+  called-output a b p q = called right (outputOf b bits before) before now' e (q ∙ ap (λ (x : Answer). outputOf x bits before) p)
 
-  pub sheet-length : (n ≡ 6 → ⊥) → checkOf sheet ≡ refusal.accepted → refusal.wrongLength ≡ sheetFirst sheet n number
-  unfolding sheetFirst
-  sheet-length h k = rw (ne-eqb n 6 h, eq-eqb (checkOf sheet) 0 k)
+  pub called-body : (a b : FrameAnswer) → a ≡ b → now' ≡ bodyLeft a bits before → now' ≡ ifCalled right (bodyLeft b bits before) before
+  called-body a b p q = called right (bodyLeft b bits before) before now' e (q ∙ ap (λ (x : FrameAnswer). bodyLeft x bits before) p)
 
-  pub sheet-called : n ≡ 6 → number ≡ sheetFirst sheet n number
-  unfolding sheetFirst
-  sheet-called h = rw (eq-eqb n 6 h)
+pub called-left : (right : Bool) (new before now' : List ℕ) → right ≡ true → (a b : FrameAnswer) → a ≡ b → now' ≡ left a new before
+    → now' ≡ ifCalled right (left b new before) before
+called-left right new before now' e a b p q = called right (left b new before) before now' e (q ∙ ap (λ (x : FrameAnswer). left x new before) p)
 
-pub six-left : (values slot : List ℕ) → (length slot ≡ 6 → ⊥) → slot ≡ returnedSix values slot
-unfolding returnedSix
-six-left values slot h = rw (ne-eqb (length slot) 6 h)
+-- ---- the answer of a call that is made
 
-pub six-held : (values slot slot' : List ℕ) → length slot ≡ 6 → slot' ≡ values → slot' ≡ returnedSix values slot
-unfolding returnedSix
-six-held values slot slot' h e = rw (eq-eqb (length slot) 6 h) e
+module _ (a b : Answer) (e : a ≡ b) where
+  pub length-called : (right : Bool) → right ≡ true → a .refusal ≡ lengthFirst right (b .refusal)
+  length-called right h = ap (λ (x : Answer). x .refusal) e ∙ length-right right (b .refusal) h
 
--- the six counts are six, refused or not
-pub counts-six : (sheet bap : List ℕ) → length (totalAnswer sheet bap .counts) ≡ 6
-unfolding totalAnswer blocksAnswer
-counts-six sheet bap =
-    by-tests (not (eqb (checkOf sheet) refusal.accepted)) (not (eqb (length bap) (bufferLength (channelsOf (commonOf sheet)))))
-    (not (bapsFit (joined 6 (blockBaps (channelsOf (commonOf sheet)) (endsOf sheet) bap))))
-  where
-    by-tests : (a b c : Bool)
-        → length (cond a (noBits (checkOf sheet)) (cond b (noBits refusal.wrongLength) (cond c (noBits refusal.badCode)
-        (record { refusal = refusal.accepted; counts = tab 6 (λ block. bitCount (blockBaps (channelsOf (commonOf sheet)) (endsOf sheet) bap block)) }))) .counts) ≡ 6
-    by-tests true b c = refl
-    by-tests false true c = refl
-    by-tests false false true = refl
-    by-tests false false false = length-tab 6 (λ block. bitCount (blockBaps (channelsOf (commonOf sheet)) (endsOf sheet) bap block))
+  pub range-called : (right inRange : Bool) → right ≡ true → a .refusal ≡ rangeFirst inRange right (b .refusal)
+  range-called right inRange h = ap (λ (x : Answer). x .refusal) e ∙ range-right right (b .refusal) inRange h
 
--- ---- zeros, entry by entry
+  -- its value in the one entry
+  pub value-holds : (slot slot' : List ℕ) → length slot ≡ 1 → slot' ≡ a .value ∷ [] → slot' ≡ returned 1 (b .value ∷ []) slot
+  value-holds slot slot' h q = slot-holds 1 (b .value ∷ []) slot slot' h (q ∙ ap (λ (x : Answer). x .value ∷ []) e)
 
-replicate-more : (n : ℕ) → _++_ {A = ℕ} (replicate n 0) (0 ∷ []) ≡ replicate (suc n) 0
-replicate-more zero = refl
-replicate-more (suc n) = ap (λ (l : List ℕ). 0 ∷ l) (replicate-more n)
+module _ (a b : FrameAnswer) (e : a ≡ b) where
+  pub frame-called : (right : Bool) (sheet : List ℕ) → right ≡ true → a .refusal ≡ sheetFirst sheet right (b .refusal)
+  frame-called right sheet h = ap (λ (x : FrameAnswer). x .refusal) e ∙ sheet-right right (b .refusal) sheet h
 
-pub zeros-more : (l : List ℕ) (i : ℕ) → i < length l → take i l ≡ replicate i 0 → take (i + 1) (set l i 0) ≡ replicate (i + 1) 0
-zeros-more l i h e = rw (add-one i, take-suc-set l i 0 h, e) (replicate-more i)
+  pub counts-hold : (slot slot' : List ℕ) → length slot ≡ 12 → slot' ≡ a .counts → slot' ≡ returned 12 (b .counts) slot
+  counts-hold slot slot' h q = slot-holds 12 (b .counts) slot slot' h (q ∙ ap (λ (x : FrameAnswer). x .counts) e)
 
-pub zeros-all : (l : List ℕ) (i n : ℕ) → i ≡ n → length l ≡ n → take i l ≡ replicate i 0 → l ≡ replicate n 0
-zeros-all l i n q h e = sym (take-all i l (omega arith)) ∙ e ∙ ap (λ (k : ℕ). replicate k 0) q
+-- ---- the reader's two result slices
+
+module _ (counts bits : List ℕ) where
+  pub both-right : length counts ≡ 12 → length bits ≡ 1 → rightSlots counts bits ≡ true
+  unfolding rightSlots
+  both-right p q = rw (eq-eqb (length counts) 12 p, eq-eqb (length bits) 1 q)
+
+  pub counts-wrong : (length counts ≡ 12 → ⊥) → rightSlots counts bits ≡ false
+  unfolding rightSlots
+  counts-wrong p = rw (ne-eqb (length counts) 12 p)
+
+  pub bits-wrong : length counts ≡ 12 → (length bits ≡ 1 → ⊥) → rightSlots counts bits ≡ false
+  unfolding rightSlots
+  bits-wrong p q = rw (eq-eqb (length counts) 12 p, ne-eqb (length bits) 1 q)
+
+module _ (right : Bool) (n : ℕ) (none slot slot' : List ℕ) where
+  -- 0 where the call is not made
+  pub none-returned : (values : List ℕ) → right ≡ false → slot' ≡ returned n none slot → slot' ≡ returned n (ifCalled right values none) slot
+  none-returned values e q = q ∙ ap (λ (v : List ℕ). returned n v slot) (not-called right values none e)
+
+  -- what it gives where it is made
+  pub all-returned : (values : List ℕ) → right ≡ true → length slot ≡ n → slot' ≡ values → slot' ≡ returned n (ifCalled right values none) slot
+  all-returned values e h q = slot-holds n (ifCalled right values none) slot slot' h (called right values none slot' e q)
 
 -- ---- the strategies
 
-module _ (exps ends slot : List ℕ) where
-  pub select-range : sixEach (length slot) ends ≡ false → selectRefusal exps ends ≡ refusal.outOfRange
-      → (refusal.outOfRange ≡ selectNumber exps ends (length slot)) × (slot ≡ selectRows exps ends slot)
-  unfolding selectNumber selectRows
-  select-range h e = (rw (h, eq-eqb (selectRefusal exps ends) 2 e), rw h)
+-- six times as many, by division
+pub six-times : (n k : ℕ) → (eqb (n % 6) 0 && eqb (n / 6) k) ≡ eqb n (6 * k)
+six-times n k =
+    by-bool (eqb n (6 * k))
+    (λ t.
+    let e = eqb-true n (6 * k) t in
+    rw (t, eq-eqb (n % 6) 0 (omega (arith, e)), eq-eqb (n / 6) k (omega (arith, e))))
+    (λ t.
+    let h = eqb-false n (6 * k) t in
+    rw t (by-bool (eqb (n % 6) 0)
+    (λ z.
+    let whole = eqb-true (n % 6) 0 z in
+    rw (z, ne-eqb (n / 6) k (λ q. h (omega (arith, whole, q)))))
+    (λ z. rw z)))
 
-  pub select-length : sixEach (length slot) ends ≡ false → (selectRefusal exps ends ≡ refusal.outOfRange → ⊥)
-      → (refusal.wrongLength ≡ selectNumber exps ends (length slot)) × (slot ≡ selectRows exps ends slot)
-  unfolding selectNumber selectRows
-  select-length h e = (rw (h, ne-eqb (selectRefusal exps ends) 2 e), rw h)
+module _ (exps ends : List ℕ) (right : Bool) where
+  pub select-range : right ≡ false → selectRefusal exps ends ≡ refusal.outOfRange → refusal.outOfRange ≡ selectNumber exps ends right
+  unfolding selectNumber rangeFirst
+  select-range h e = rw (h, eq-eqb (selectRefusal exps ends) refusal.outOfRange e)
 
-  pub select-refused : (slot' : List ℕ) → sixEach (length slot) ends ≡ true → (selectRefusal exps ends ≡ refusal.accepted → ⊥)
-      → slot' ≡ replicate (length slot) 0 → (selectRefusal exps ends ≡ selectNumber exps ends (length slot)) × (slot' ≡ selectRows exps ends slot)
-  unfolding selectNumber selectRows
-  select-refused slot' h e q = (rw h, rw (h, ne-eqb (selectRefusal exps ends) 0 e) q)
+  pub select-length : right ≡ false → (selectRefusal exps ends ≡ refusal.outOfRange → ⊥) → refusal.wrongLength ≡ selectNumber exps ends right
+  unfolding selectNumber rangeFirst
+  select-length h e = rw (h, ne-eqb (selectRefusal exps ends) refusal.outOfRange e)
 
-  pub select-accepted : (slot' : List ℕ) → sixEach (length slot) ends ≡ true → selectRefusal exps ends ≡ refusal.accepted
-      → slot' ≡ rowsOf (selected exps ends) (length ends)
-      → (refusal.accepted ≡ selectNumber exps ends (length slot)) × (slot' ≡ selectRows exps ends slot)
-  unfolding selectNumber selectRows
-  select-accepted slot' h e q = (rw h (sym e), rw (h, eq-eqb (selectRefusal exps ends) 0 e) q)
+  pub select-right : right ≡ true → selectRefusal exps ends ≡ selectNumber exps ends right
+  unfolding selectNumber rangeFirst
+  select-right h = rw h
+
+module _ (exps ends slot slot' : List ℕ) (long : length slot ≡ 6 * length ends) where
+  pub zeros-returned : (selectRefusal exps ends ≡ refusal.accepted → ⊥) → slot' ≡ replicate (length slot) 0
+      → slot' ≡ returned (6 * length ends) (selectRows exps ends) slot
+  unfolding selectRows
+  zeros-returned e q =
+      slot-holds (6 * length ends) _ slot slot' long
+      (q ∙ ap (λ (n : ℕ). replicate n 0) long ∙ rw (ne-eqb (selectRefusal exps ends) refusal.accepted e))
+
+  pub rows-returned : selectRefusal exps ends ≡ refusal.accepted → slot' ≡ rowsOf (selected exps ends) (length ends)
+      → slot' ≡ returned (6 * length ends) (selectRows exps ends) slot
+  unfolding selectRows
+  rows-returned e q = slot-holds (6 * length ends) _ slot slot' long (q ∙ rw (eq-eqb (selectRefusal exps ends) refusal.accepted e))
 
 -- ---- the allocation
 
@@ -162,12 +195,12 @@ module _ (sheet : List ℕ) (channel : ℕ) (exp bap : List ℕ) where
   pub allocation-sheet : (checkOf sheet ≡ refusal.accepted → ⊥)
       → (checkOf sheet ≡ allocationNumber sheet channel exp (length bap)) × (bap ≡ allocationLeft sheet channel exp bap)
   unfolding allocationNumber allocationLeft
-  allocation-sheet h = (rw (ne-eqb (checkOf sheet) 0 h), rw (ne-eqb (checkOf sheet) 0 h))
+  allocation-sheet h = (rw (ne-eqb (checkOf sheet) refusal.accepted h), rw (ne-eqb (checkOf sheet) refusal.accepted h))
 
   pub allocation-channel : checkOf sheet ≡ refusal.accepted → channelsOf (commonOf sheet) ≤ channel
       → (refusal.outOfRange ≡ allocationNumber sheet channel exp (length bap)) × (bap ≡ allocationLeft sheet channel exp bap)
   unfolding allocationNumber allocationLeft
-  allocation-channel e h = (rw (eq-eqb (checkOf sheet) 0 e, le-ltb _ _ h), rw (eq-eqb (checkOf sheet) 0 e, le-ltb _ _ h))
+  allocation-channel e h = (rw (eq-eqb (checkOf sheet) refusal.accepted e, le-ltb _ _ h), rw (eq-eqb (checkOf sheet) refusal.accepted e, le-ltb _ _ h))
 
   pub allocation-called : (common : Common) (chosen : ChannelRecord) (number : ℕ) (bap' : List ℕ) → checkOf sheet ≡ refusal.accepted
       → channel < channelsOf (commonOf sheet) → common ≡ commonOf sheet → chosen ≡ recordOf sheet channel
@@ -177,4 +210,4 @@ module _ (sheet : List ℕ) (channel : ℕ) (exp bap : List ℕ) where
   allocation-called common chosen number bap' e h p q a l =
       let answer = a ∙ ap (λ (k : Common). answerOf k chosen (chosen .end) exp (length bap)) p ∙ ap (λ (r : ChannelRecord). answerOf (commonOf sheet) r (r .end) exp (length bap)) q in
       let left = l ∙ ap (λ (k : Common). leftIn k chosen (chosen .end) exp bap) p ∙ ap (λ (r : ChannelRecord). leftIn (commonOf sheet) r (r .end) exp bap) q in
-      (rw (eq-eqb (checkOf sheet) 0 e, lt-ltb _ _ h) answer, rw (eq-eqb (checkOf sheet) 0 e, lt-ltb _ _ h) left)
+      (rw (eq-eqb (checkOf sheet) refusal.accepted e, lt-ltb _ _ h) answer, rw (eq-eqb (checkOf sheet) refusal.accepted e, lt-ltb _ _ h) left)

@@ -1,4 +1,2 @@
 pub mod Entries
 pub mod EntriesLaws
-pub mod FrameEntries
-pub mod FrameEntriesLaws

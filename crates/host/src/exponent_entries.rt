@@ -1,11 +1,12 @@
 // The exponent writer and reader.
 ghost use mathlib.Core.Path.{_≡_};
+ghost use mathlib.Core.List.{[], _∷_};
 ghost use lib.ListN.{length, take};
 ghost use Rattle.bits.specs.Answer.{outputOf};
 ghost use Rattle.bits.specs.Field.{bitsOf};
 ghost use Rattle.exponents.specs.Calls.{inRange, exponentsWritten, exponentsRead, exponentsLeft};
 ghost use Rattle.exponents.specs.Groups.{exponentBits};
-ghost use Rattle.host.specs.Entries.{rangeFirst, returned, ifCalled};
+ghost use Rattle.host.specs.Entries.{hasLength, rangeFirst, returned, ifCalled};
 use crate::results::return_count;
 use bits::refusal::OUT_OF_RANGE;
 use bits::refusal::WRONG_LENGTH;
@@ -18,9 +19,9 @@ pub extern "C" fn ac3_write_exponents_grouped(
     grpsize: usize,
     bits: &mut [u32],
 ) -> u32
-    ensures { λ r. ⌜ r ≡ rangeFirst (inRange end grpsize) (length (now (bits .entry))) (exponentsWritten (now (exp .entry)) end grpsize (length (now (out .entry)))) ⌝ }
-    ensures { λ _. ⌜ now (bits .exit) ≡ returned (exponentsWritten (now (exp .entry)) end grpsize (length (now (out .entry))) .value) (now (bits .entry)) ⌝ }
-    ensures { λ _. ⌜ now (out .exit) ≡ ifCalled (length (now (bits .entry))) (outputOf (exponentsWritten (now (exp .entry)) end grpsize (length (now (out .entry)))) (exponentBits grpsize (take end (now (exp .entry)))) (now (out .entry))) (now (out .entry)) ⌝ }
+    ensures { λ r. ⌜ r ≡ rangeFirst (inRange end grpsize) (hasLength 1 (now (bits .entry))) (exponentsWritten (now (exp .entry)) end grpsize (length (now (out .entry))) .refusal) ⌝ }
+    ensures { λ _. ⌜ now (bits .exit) ≡ returned 1 (exponentsWritten (now (exp .entry)) end grpsize (length (now (out .entry))) .value ∷ []) (now (bits .entry)) ⌝ }
+    ensures { λ _. ⌜ now (out .exit) ≡ ifCalled (hasLength 1 (now (bits .entry))) (outputOf (exponentsWritten (now (exp .entry)) end grpsize (length (now (out .entry)))) (exponentBits grpsize (take end (now (exp .entry)))) (now (out .entry))) (now (out .entry)) ⌝ }
 {
     if bits.len() != 1 {
         if exponents::in_range(end, grpsize) {
@@ -41,9 +42,9 @@ pub extern "C" fn ac3_read_exponents_grouped(
     grpsize: usize,
     bits: &mut [u32],
 ) -> u32
-    ensures { λ r. ⌜ r ≡ rangeFirst (inRange end grpsize) (length (now (bits .entry))) (exponentsRead (bitsOf (now (input .entry))) end grpsize (length (now (exp .entry)))) ⌝ }
-    ensures { λ _. ⌜ now (bits .exit) ≡ returned (exponentsRead (bitsOf (now (input .entry))) end grpsize (length (now (exp .entry))) .value) (now (bits .entry)) ⌝ }
-    ensures { λ _. ⌜ now (exp .exit) ≡ ifCalled (length (now (bits .entry))) (exponentsLeft (bitsOf (now (input .entry))) end grpsize (now (exp .entry))) (now (exp .entry)) ⌝ }
+    ensures { λ r. ⌜ r ≡ rangeFirst (inRange end grpsize) (hasLength 1 (now (bits .entry))) (exponentsRead (bitsOf (now (input .entry))) end grpsize (length (now (exp .entry))) .refusal) ⌝ }
+    ensures { λ _. ⌜ now (bits .exit) ≡ returned 1 (exponentsRead (bitsOf (now (input .entry))) end grpsize (length (now (exp .entry))) .value ∷ []) (now (bits .entry)) ⌝ }
+    ensures { λ _. ⌜ now (exp .exit) ≡ ifCalled (hasLength 1 (now (bits .entry))) (exponentsLeft (bitsOf (now (input .entry))) end grpsize (now (exp .entry))) (now (exp .entry)) ⌝ }
 {
     if bits.len() != 1 {
         if exponents::in_range(end, grpsize) {

@@ -1,34 +1,20 @@
 // The frame: from coefficients, from exponents and codes, and its reader.
 ghost use mathlib.Core.Path.{_≡_};
-ghost use mathlib.Core.Bool.{false};
-ghost use mathlib.Core.List.{[]};
-ghost use lib.Dec.{eqb};
-ghost use lib.ListN.{length};
+ghost use mathlib.Core.List.{[], _∷_};
+ghost use lib.ListN.{length, replicate};
 ghost use Rattle.bits.specs.Field.{bitsOf};
 ghost use Rattle.frame.specs.Answers.{writeAnswer, bodyLeft, readAnswer, readLeft, reached};
 ghost use Rattle.frame.specs.Body.{bodyBits};
 ghost use Rattle.frame.specs.Reader.{readFrame};
-ghost use Rattle.frame_reader.specs.Reading.{expsOf as expsRead, bapOf as bapRead, codesOf as codesRead};
+ghost use Rattle.frame_reader.specs.Reading.{expsRead, bapRead, codesRead};
 ghost use Rattle.frame_encoder.specs.Codes.{codesOf};
 ghost use Rattle.frame_encoder.specs.Encode.{encodeAnswer, encodedBits, left};
 ghost use Rattle.frame_rows.specs.Rows.{bapsOf};
 ghost use Rattle.frame_runs.specs.Runs.{expsOf};
-ghost use Rattle.host.specs.FrameEntries.{frameNumber, returnedTwelve, returnedBits, ifRight, rightSlots};
+ghost use Rattle.host.specs.Entries.{hasLength, sheetFirst, returned, ifCalled, rightSlots};
 use crate::results::return_count;
 use crate::results::return_twelve;
-use bits::refusal::ACCEPTED;
-use bits::refusal::WRONG_LENGTH;
-
-// A result slice has another length: 1 and 2 come before that.
-fn slot_refusal(sheet: &[u8]) -> u32
-    ensures { λ r. ⌜ r ≡ frameNumber false (now (sheet .entry)) 0 ⌝ }
-{
-    let number = sheet::check_sheet(sheet);
-    if number != ACCEPTED {
-        return number;
-    }
-    WRONG_LENGTH
-}
+use crate::sheet_entry::slot_refusal;
 
 #[no_mangle]
 pub extern "C" fn ac3_encode_body(
@@ -40,12 +26,12 @@ pub extern "C" fn ac3_encode_body(
     body: &mut [u8],
     counts: &mut [u32],
 ) -> u32
-    ensures { λ r. ⌜ r ≡ frameNumber (eqb (length (now (counts .entry))) 12) (now (sheet .entry)) (encodeAnswer (now (sheet .entry)) (now (coeffs .entry)) (length (now (exps .entry))) (length (now (bap .entry))) (length (now (codes .entry))) (length (now (body .entry))) .refusal) ⌝ }
-    ensures { λ _. ⌜ now (counts .exit) ≡ returnedTwelve (eqb (length (now (counts .entry))) 12) (encodeAnswer (now (sheet .entry)) (now (coeffs .entry)) (length (now (exps .entry))) (length (now (bap .entry))) (length (now (codes .entry))) (length (now (body .entry))) .counts) (now (counts .entry)) ⌝ }
-    ensures { λ _. ⌜ now (exps .exit) ≡ ifRight (eqb (length (now (counts .entry))) 12) (left (encodeAnswer (now (sheet .entry)) (now (coeffs .entry)) (length (now (exps .entry))) (length (now (bap .entry))) (length (now (codes .entry))) (length (now (body .entry)))) (expsOf (now (sheet .entry)) (now (coeffs .entry))) (now (exps .entry))) (now (exps .entry)) ⌝ }
-    ensures { λ _. ⌜ now (bap .exit) ≡ ifRight (eqb (length (now (counts .entry))) 12) (left (encodeAnswer (now (sheet .entry)) (now (coeffs .entry)) (length (now (exps .entry))) (length (now (bap .entry))) (length (now (codes .entry))) (length (now (body .entry)))) (bapsOf (now (sheet .entry)) (expsOf (now (sheet .entry)) (now (coeffs .entry)))) (now (bap .entry))) (now (bap .entry)) ⌝ }
-    ensures { λ _. ⌜ now (codes .exit) ≡ ifRight (eqb (length (now (counts .entry))) 12) (left (encodeAnswer (now (sheet .entry)) (now (coeffs .entry)) (length (now (exps .entry))) (length (now (bap .entry))) (length (now (codes .entry))) (length (now (body .entry)))) (codesOf (now (sheet .entry)) (now (coeffs .entry))) (now (codes .entry))) (now (codes .entry)) ⌝ }
-    ensures { λ _. ⌜ now (body .exit) ≡ ifRight (eqb (length (now (counts .entry))) 12) (bodyLeft (encodeAnswer (now (sheet .entry)) (now (coeffs .entry)) (length (now (exps .entry))) (length (now (bap .entry))) (length (now (codes .entry))) (length (now (body .entry)))) (encodedBits (now (sheet .entry)) (now (coeffs .entry))) (now (body .entry))) (now (body .entry)) ⌝ }
+    ensures { λ r. ⌜ r ≡ sheetFirst (now (sheet .entry)) (hasLength 12 (now (counts .entry))) (encodeAnswer (now (sheet .entry)) (now (coeffs .entry)) (length (now (exps .entry))) (length (now (bap .entry))) (length (now (codes .entry))) (length (now (body .entry))) .refusal) ⌝ }
+    ensures { λ _. ⌜ now (counts .exit) ≡ returned 12 (encodeAnswer (now (sheet .entry)) (now (coeffs .entry)) (length (now (exps .entry))) (length (now (bap .entry))) (length (now (codes .entry))) (length (now (body .entry))) .counts) (now (counts .entry)) ⌝ }
+    ensures { λ _. ⌜ now (exps .exit) ≡ ifCalled (hasLength 12 (now (counts .entry))) (left (encodeAnswer (now (sheet .entry)) (now (coeffs .entry)) (length (now (exps .entry))) (length (now (bap .entry))) (length (now (codes .entry))) (length (now (body .entry)))) (expsOf (now (sheet .entry)) (now (coeffs .entry))) (now (exps .entry))) (now (exps .entry)) ⌝ }
+    ensures { λ _. ⌜ now (bap .exit) ≡ ifCalled (hasLength 12 (now (counts .entry))) (left (encodeAnswer (now (sheet .entry)) (now (coeffs .entry)) (length (now (exps .entry))) (length (now (bap .entry))) (length (now (codes .entry))) (length (now (body .entry)))) (bapsOf (now (sheet .entry)) (expsOf (now (sheet .entry)) (now (coeffs .entry)))) (now (bap .entry))) (now (bap .entry)) ⌝ }
+    ensures { λ _. ⌜ now (codes .exit) ≡ ifCalled (hasLength 12 (now (counts .entry))) (left (encodeAnswer (now (sheet .entry)) (now (coeffs .entry)) (length (now (exps .entry))) (length (now (bap .entry))) (length (now (codes .entry))) (length (now (body .entry)))) (codesOf (now (sheet .entry)) (now (coeffs .entry))) (now (codes .entry))) (now (codes .entry)) ⌝ }
+    ensures { λ _. ⌜ now (body .exit) ≡ ifCalled (hasLength 12 (now (counts .entry))) (bodyLeft (encodeAnswer (now (sheet .entry)) (now (coeffs .entry)) (length (now (exps .entry))) (length (now (bap .entry))) (length (now (codes .entry))) (length (now (body .entry)))) (encodedBits (now (sheet .entry)) (now (coeffs .entry))) (now (body .entry))) (now (body .entry)) ⌝ }
 {
     if counts.len() != 12 {
         return slot_refusal(sheet);
@@ -64,9 +50,9 @@ pub extern "C" fn ac3_write_body(
     body: &mut [u8],
     counts: &mut [u32],
 ) -> u32
-    ensures { λ r. ⌜ r ≡ frameNumber (eqb (length (now (counts .entry))) 12) (now (sheet .entry)) (writeAnswer (now (sheet .entry)) (now (exps .entry)) (now (codes .entry)) (length (now (body .entry))) .refusal) ⌝ }
-    ensures { λ _. ⌜ now (counts .exit) ≡ returnedTwelve (eqb (length (now (counts .entry))) 12) (writeAnswer (now (sheet .entry)) (now (exps .entry)) (now (codes .entry)) (length (now (body .entry))) .counts) (now (counts .entry)) ⌝ }
-    ensures { λ _. ⌜ now (body .exit) ≡ ifRight (eqb (length (now (counts .entry))) 12) (bodyLeft (writeAnswer (now (sheet .entry)) (now (exps .entry)) (now (codes .entry)) (length (now (body .entry)))) (bodyBits (now (sheet .entry)) (now (exps .entry)) (now (codes .entry))) (now (body .entry))) (now (body .entry)) ⌝ }
+    ensures { λ r. ⌜ r ≡ sheetFirst (now (sheet .entry)) (hasLength 12 (now (counts .entry))) (writeAnswer (now (sheet .entry)) (now (exps .entry)) (now (codes .entry)) (length (now (body .entry))) .refusal) ⌝ }
+    ensures { λ _. ⌜ now (counts .exit) ≡ returned 12 (writeAnswer (now (sheet .entry)) (now (exps .entry)) (now (codes .entry)) (length (now (body .entry))) .counts) (now (counts .entry)) ⌝ }
+    ensures { λ _. ⌜ now (body .exit) ≡ ifCalled (hasLength 12 (now (counts .entry))) (bodyLeft (writeAnswer (now (sheet .entry)) (now (exps .entry)) (now (codes .entry)) (length (now (body .entry)))) (bodyBits (now (sheet .entry)) (now (exps .entry)) (now (codes .entry))) (now (body .entry))) (now (body .entry)) ⌝ }
 {
     if counts.len() != 12 {
         return slot_refusal(sheet);
@@ -79,7 +65,7 @@ pub extern "C" fn ac3_write_body(
 
 // A result slice of the right length holds 0 where the call is not made.
 fn no_counts(counts: &mut [u32])
-    ensures { λ _. ⌜ now (counts .exit) ≡ returnedTwelve false [] (now (counts .entry)) ⌝ }
+    ensures { λ _. ⌜ now (counts .exit) ≡ returned 12 (replicate 12 0) (now (counts .entry)) ⌝ }
 {
     if counts.len() == 12 {
         return_twelve(counts, [0; 12]);
@@ -87,7 +73,7 @@ fn no_counts(counts: &mut [u32])
 }
 
 fn no_bits(bits: &mut [u32])
-    ensures { λ _. ⌜ now (bits .exit) ≡ returnedBits false 0 (now (bits .entry)) ⌝ }
+    ensures { λ _. ⌜ now (bits .exit) ≡ returned 1 (0 ∷ []) (now (bits .entry)) ⌝ }
 {
     if bits.len() == 1 {
         return_count(bits, 0);
@@ -104,12 +90,12 @@ pub extern "C" fn ac3_read_body(
     counts: &mut [u32],
     bits: &mut [u32],
 ) -> u32
-    ensures { λ r. ⌜ r ≡ frameNumber (rightSlots (length (now (counts .entry))) (length (now (bits .entry)))) (now (sheet .entry)) (readAnswer (now (sheet .entry)) (bitsOf (now (input .entry))) (length (now (exps .entry))) (length (now (bap .entry))) (length (now (codes .entry))) .refusal) ⌝ }
-    ensures { λ _. ⌜ now (counts .exit) ≡ returnedTwelve (rightSlots (length (now (counts .entry))) (length (now (bits .entry)))) (readAnswer (now (sheet .entry)) (bitsOf (now (input .entry))) (length (now (exps .entry))) (length (now (bap .entry))) (length (now (codes .entry))) .counts) (now (counts .entry)) ⌝ }
-    ensures { λ _. ⌜ now (bits .exit) ≡ returnedBits (rightSlots (length (now (counts .entry))) (length (now (bits .entry)))) (readAnswer (now (sheet .entry)) (bitsOf (now (input .entry))) (length (now (exps .entry))) (length (now (bap .entry))) (length (now (codes .entry))) .bits) (now (bits .entry)) ⌝ }
-    ensures { λ _. ⌜ now (exps .exit) ≡ ifRight (rightSlots (length (now (counts .entry))) (length (now (bits .entry)))) (readLeft (reached (now (sheet .entry)) (length (now (exps .entry))) (length (now (bap .entry))) (length (now (codes .entry)))) expsRead (readFrame (now (sheet .entry)) (bitsOf (now (input .entry)))) (now (exps .entry))) (now (exps .entry)) ⌝ }
-    ensures { λ _. ⌜ now (bap .exit) ≡ ifRight (rightSlots (length (now (counts .entry))) (length (now (bits .entry)))) (readLeft (reached (now (sheet .entry)) (length (now (exps .entry))) (length (now (bap .entry))) (length (now (codes .entry)))) bapRead (readFrame (now (sheet .entry)) (bitsOf (now (input .entry)))) (now (bap .entry))) (now (bap .entry)) ⌝ }
-    ensures { λ _. ⌜ now (codes .exit) ≡ ifRight (rightSlots (length (now (counts .entry))) (length (now (bits .entry)))) (readLeft (reached (now (sheet .entry)) (length (now (exps .entry))) (length (now (bap .entry))) (length (now (codes .entry)))) codesRead (readFrame (now (sheet .entry)) (bitsOf (now (input .entry)))) (now (codes .entry))) (now (codes .entry)) ⌝ }
+    ensures { λ r. ⌜ r ≡ sheetFirst (now (sheet .entry)) (rightSlots (now (counts .entry)) (now (bits .entry))) (readAnswer (now (sheet .entry)) (bitsOf (now (input .entry))) (length (now (exps .entry))) (length (now (bap .entry))) (length (now (codes .entry))) .refusal) ⌝ }
+    ensures { λ _. ⌜ now (counts .exit) ≡ returned 12 (ifCalled (rightSlots (now (counts .entry)) (now (bits .entry))) (readAnswer (now (sheet .entry)) (bitsOf (now (input .entry))) (length (now (exps .entry))) (length (now (bap .entry))) (length (now (codes .entry))) .counts) (replicate 12 0)) (now (counts .entry)) ⌝ }
+    ensures { λ _. ⌜ now (bits .exit) ≡ returned 1 (ifCalled (rightSlots (now (counts .entry)) (now (bits .entry))) (readAnswer (now (sheet .entry)) (bitsOf (now (input .entry))) (length (now (exps .entry))) (length (now (bap .entry))) (length (now (codes .entry))) .bits ∷ []) (0 ∷ [])) (now (bits .entry)) ⌝ }
+    ensures { λ _. ⌜ now (exps .exit) ≡ ifCalled (rightSlots (now (counts .entry)) (now (bits .entry))) (readLeft (reached (now (sheet .entry)) (length (now (exps .entry))) (length (now (bap .entry))) (length (now (codes .entry)))) expsRead (readFrame (now (sheet .entry)) (bitsOf (now (input .entry)))) (now (exps .entry))) (now (exps .entry)) ⌝ }
+    ensures { λ _. ⌜ now (bap .exit) ≡ ifCalled (rightSlots (now (counts .entry)) (now (bits .entry))) (readLeft (reached (now (sheet .entry)) (length (now (exps .entry))) (length (now (bap .entry))) (length (now (codes .entry)))) bapRead (readFrame (now (sheet .entry)) (bitsOf (now (input .entry)))) (now (bap .entry))) (now (bap .entry)) ⌝ }
+    ensures { λ _. ⌜ now (codes .exit) ≡ ifCalled (rightSlots (now (counts .entry)) (now (bits .entry))) (readLeft (reached (now (sheet .entry)) (length (now (exps .entry))) (length (now (bap .entry))) (length (now (codes .entry)))) codesRead (readFrame (now (sheet .entry)) (bitsOf (now (input .entry)))) (now (codes .entry))) (now (codes .entry)) ⌝ }
 {
     if counts.len() != 12 {
         no_bits(bits);

@@ -7,3 +7,4 @@ pub mod mantissa_entries;
 pub mod results;
 pub mod shaping_entries;
 pub mod sheet_entry;
+pub mod writer_entry;

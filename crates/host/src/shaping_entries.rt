@@ -1,25 +1,26 @@
 // Exponents: extraction, shaping, the number of groups, the choice of a strategy.
 ghost use mathlib.Core.Path.{_≡_};
-ghost use lib.Dec.{leb};
+ghost use mathlib.Core.Bool.{_&&_};
+ghost use mathlib.Core.List.{[], _∷_};
+ghost use Prim.Native.Nat.{_*_};
+ghost use lib.Dec.{eqb, leb};
 ghost use lib.ListN.{length};
 ghost use Rattle.shaping.specs.Extract.{extracted};
 ghost use Rattle.shaping.specs.Groups.{groupsAnswer};
 ghost use Rattle.shaping.specs.Passes.{isSpan, preprocessRefusal, preprocessed, quantiseRefusal, quantised};
 ghost use Rattle.shaping.specs.Strategies.{pickAnswer};
-ghost use Rattle.host.specs.Entries.{lengthFirst, rangeFirst, returned, selectNumber, selectRows, sixEach};
-ghost use mathlib.Core.Bool.{_&&_};
+ghost use Rattle.host.specs.Entries.{hasLength, lengthFirst, rangeFirst, returned, selectNumber, selectRows};
 use crate::results::return_byte;
 use crate::results::return_count;
 use crate::results::return_rows;
-use crate::results::return_zeros;
 use bits::refusal::ACCEPTED;
 use bits::refusal::OUT_OF_RANGE;
 use bits::refusal::WRONG_LENGTH;
 
 #[no_mangle]
 pub extern "C" fn ac3_extract_exponent(x: f32, exponent: &mut [u8]) -> u32
-    ensures { λ r. ⌜ r ≡ lengthFirst (length (now (exponent .entry))) (extracted x) ⌝ }
-    ensures { λ _. ⌜ now (exponent .exit) ≡ returned (extracted x .value) (now (exponent .entry)) ⌝ }
+    ensures { λ r. ⌜ r ≡ lengthFirst (hasLength 1 (now (exponent .entry))) (extracted x .refusal) ⌝ }
+    ensures { λ _. ⌜ now (exponent .exit) ≡ returned 1 (extracted x .value ∷ []) (now (exponent .entry)) ⌝ }
 {
     if exponent.len() != 1 {
         return WRONG_LENGTH;
@@ -47,8 +48,8 @@ pub extern "C" fn ac3_quantise_exponents_to_grpsize(exp: &mut [u8], grpsize: usi
 
 #[no_mangle]
 pub extern "C" fn ac3_ngrps_for_strategy(end: usize, grpsize: usize, groups: &mut [u32]) -> u32
-    ensures { λ r. ⌜ r ≡ rangeFirst (leb end 256 && isSpan grpsize) (length (now (groups .entry))) (groupsAnswer end grpsize) ⌝ }
-    ensures { λ _. ⌜ now (groups .exit) ≡ returned (groupsAnswer end grpsize .value) (now (groups .entry)) ⌝ }
+    ensures { λ r. ⌜ r ≡ rangeFirst (leb end 256 && isSpan grpsize) (hasLength 1 (now (groups .entry))) (groupsAnswer end grpsize .refusal) ⌝ }
+    ensures { λ _. ⌜ now (groups .exit) ≡ returned 1 (groupsAnswer end grpsize .value ∷ []) (now (groups .entry)) ⌝ }
 {
     if groups.len() != 1 {
         if (end <= 256) & shaping::is_span(grpsize) {
@@ -63,8 +64,8 @@ pub extern "C" fn ac3_ngrps_for_strategy(end: usize, grpsize: usize, groups: &mu
 
 #[no_mangle]
 pub extern "C" fn ac3_pick_strategy_for_block(exp: &[u8], end: usize, strategy: &mut [u8]) -> u32
-    ensures { λ r. ⌜ r ≡ rangeFirst (leb end 256) (length (now (strategy .entry))) (pickAnswer (now (exp .entry)) end) ⌝ }
-    ensures { λ _. ⌜ now (strategy .exit) ≡ returned (pickAnswer (now (exp .entry)) end .value) (now (strategy .entry)) ⌝ }
+    ensures { λ r. ⌜ r ≡ rangeFirst (leb end 256) (hasLength 1 (now (strategy .entry))) (pickAnswer (now (exp .entry)) end .refusal) ⌝ }
+    ensures { λ _. ⌜ now (strategy .exit) ≡ returned 1 (pickAnswer (now (exp .entry)) end .value ∷ []) (now (strategy .entry)) ⌝ }
 {
     if strategy.len() != 1 {
         if end <= 256 {
@@ -77,9 +78,9 @@ pub extern "C" fn ac3_pick_strategy_for_block(exp: &[u8], end: usize, strategy: 
     answer.refusal
 }
 
-// Six entries for each channel.
+// Six entries for each channel; six times any length might not fit a number, so it is divided.
 fn six_each(n: usize, ends: &[u16]) -> bool
-    ensures { λ r. ⌜ r ≡ sixEach n (now (ends .entry)) ⌝ }
+    ensures { λ r. ⌜ r ≡ eqb n (6 * length (now (ends .entry))) ⌝ }
 {
     (n % 6 == 0) & (n / 6 == ends.len())
 }
@@ -90,8 +91,8 @@ pub extern "C" fn ac3_select_exp_strategies_per_end(
     ends: &[u16],
     strategies: &mut [u8],
 ) -> u32
-    ensures { λ r. ⌜ r ≡ selectNumber (now (exps .entry)) (now (ends .entry)) (length (now (strategies .entry))) ⌝ }
-    ensures { λ _. ⌜ now (strategies .exit) ≡ selectRows (now (exps .entry)) (now (ends .entry)) (now (strategies .entry)) ⌝ }
+    ensures { λ r. ⌜ r ≡ selectNumber (now (exps .entry)) (now (ends .entry)) (hasLength (6 * length (now (ends .entry))) (now (strategies .entry))) ⌝ }
+    ensures { λ _. ⌜ now (strategies .exit) ≡ returned (6 * length (now (ends .entry))) (selectRows (now (exps .entry)) (now (ends .entry))) (now (strategies .entry)) ⌝ }
 {
     let number = shaping::select_refusal(exps, ends);
     if !six_each(strategies.len(), ends) {
@@ -101,7 +102,7 @@ pub extern "C" fn ac3_select_exp_strategies_per_end(
         return WRONG_LENGTH;
     }
     if number != ACCEPTED {
-        return_zeros(strategies);
+        slices::fill(strategies, 0);
         return number;
     }
     let table = shaping::select_exp_strategies_per_end(exps, ends);

@@ -1,5 +1,5 @@
--- What the program answers (document 01, "The frame body"): 1 and 2 of the sheet, 10 for another number of coefficient bytes than four for
--- each entry of the sheet's buffers, then what `encode_body` answers.
+-- What the program answers (document 01, "The frame body"): 1 and 2 of the sheet; "too few or too many coefficient bytes are 10", which
+-- are others than four for each of 6 × C × 256 entries; then what `encode_body` answers.
 use Prim.Native.Nat.{ℕ, _*_}
 use mathlib.Core.List.{List}
 use lib.Dec.{eqb}
@@ -16,9 +16,10 @@ use Rattle.input.specs.Input.{sheetIn, coefficientBytes, coefficientsIn}
 abbrev pub bodyRoom : ℕ
 bodyRoom = 21504
 
--- of a sheet that is accepted, and the bytes after it
+-- to the bytes after a sheet that is accepted, whose buffers have n entries
 unfoldable pub bytesAnswer : List ℕ → List ℕ → ℕ → FrameAnswer
 bytesAnswer sheet bytes n = must (eqb (length bytes) (4 * n)) refusal.wrongLength (encodeAnswer sheet (coefficientsIn n bytes) n n n bodyRoom)
 
+-- to the whole input
 unfoldable pub programAnswer : List ℕ → FrameAnswer
 programAnswer input = sheetFirst (sheetIn input) (bytesAnswer (sheetIn input) (coefficientBytes input) (bufferLength (channels (sheetIn input))))

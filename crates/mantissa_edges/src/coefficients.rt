@@ -1,21 +1,13 @@
 // The codes of coefficients, which are given by their bits.
 use crate::show;
 
-// The f32 of a pattern; an infinity for the pattern of a NaN.
-fn from_pattern(n: u32) -> f32 {
-    if n % 2147483648 > 2139095040 {
-        return 1.0 / 0.0;
-    }
-    f32::from_bits(n)
-}
-
 fn code(pattern: u32, exponent: u32, bap: u32) {
     show::text(b"code");
     show::number(pattern as u64);
     show::number(exponent as u64);
     show::number(bap as u64);
     show::text(b":");
-    show::answer(quantiser::quantise_mantissa(from_pattern(pattern), exponent, bap));
+    show::answer(quantiser::quantise_mantissa(shaping::coefficient_of(pattern), exponent, bap));
     show::end();
 }
 

@@ -95,26 +95,9 @@ pub fn members() {
 
 pub fn mixtures() {
     let ascending = [0, 1, 2, 3, 4, 5, 6, 7, 8, 9, 10, 11, 12, 13, 14, 15];
-    let largest = [
-        0,
-        2,
-        4,
-        6,
-        10,
-        14,
-        31,
-        63,
-        127,
-        255,
-        511,
-        1023,
-        2047,
-        4095,
-        16383,
-        65535,
-    ];
-    written(&ascending, &largest, 16);
-    written(&ascending, &largest, 15);
+    let largest = LARGEST;
+    written(&ascending, &largest[0..16], 16);
+    written(&ascending, &largest[0..16], 15);
     written(
         &[4, 1, 2, 1, 2, 4, 1, 2, 4, 1],
         &[1, 2, 3, 1, 2, 0, 0, 4, 8, 1],

@@ -1,25 +1,26 @@
 -- The ways out of the calls: each refusal in its order, and the work done.
-use mathlib.Core.Path.{_≡_, sym, _∙_}
-use mathlib.Core.Bool.{Bool, true, false, not}
+use mathlib.Core.Path.{_≡_}
+use mathlib.Core.Bool.{Bool, true, false}
 use mathlib.Core.List.{List, _++_}
 use Prim.Native.Nat.{ℕ, _-_, _≤_, _<_}
 use native.Mathlib.Omega.{arith}
 use lib.Dec.{eqb, leb}
 use lib.ListN.{length, replicate, length-drop}
-use borrow.Author.Tests.{not-true, not-false, eqb-true, leb-true, lt-ltb, le-ltb, eq-eqb, ne-eqb}
+use borrow.Author.Tests.{eqb-true, leb-true, lt-ltb, le-ltb, eq-eqb, ne-eqb}
 use Rattle.bits.specs.Answer.{gives, turnedBack, outputOf}
 use Rattle.bits.specs.Bytes.{bytesFor, bytesOf}
 use Rattle.bits.specs.Parts.{joined, tab}
 use Rattle.bits.specs.Read.{from}
 use Rattle.bits.specs.Reading.{ok, fault}
 use Rattle.bits.specs.Refusal as refusal
+use Rattle.bits.specs.Tests.{both}
 use Rattle.bits.specs.Write.{Ready, Put, begun, place, written, after}
 use Rattle.bits.specs.WriteLaws.{step-stored, output-stored, output-left}
 use Rattle.bits.specs.declared.answer.Answer.{Answer}
 use Rattle.bits.specs.declared.write.Writer.{Writer}
-use Rattle.mantissas.specs.Blocks.{blockBaps, noBits, blocksAnswer, totalAnswer, Ends}
+use Rattle.mantissas.specs.Blocks.{blockBaps, noBits, blocksAnswer, totalAnswer}
 use Rattle.mantissas.specs.Calls.{mostEntries, oneLength, writeAnswer, readOf, codesOf, readAnswer, codesAfter}
-use Rattle.mantissas.specs.State.{by-bool}
+use Rattle.mantissas.specs.Inner.{Ends}
 use Rattle.mantissas.specs.Stream.{coded, bapsFit, stream, bitCount, readStream}
 use Rattle.mantissas.specs.declared.blocks.MantissaBits.{MantissaBits}
 use Rattle.sheet.specs.Common.{commonOf, channelsOf}
@@ -30,17 +31,7 @@ use Rattle.sheet.specs.Sheet.{checkOf}
 
 pub one-length-says : (m n : ℕ) → oneLength m n ≡ true → (m ≡ n) × (m ≤ mostEntries)
 unfolding oneLength
-one-length-says m n e =
-    by-bool (eqb m n)
-    (λ t. let l : leb m mostEntries ≡ true = rw t at e in (eqb-true m n t, leb-true m mostEntries l))
-    (λ t. let f : false ≡ true = rw t at e in let z : _≡_ {A = ℕ} 0 1 = cc in absurd (omega arith))
-
--- a test's answer that let the call go on, and one that turned it back
-pub passed : {t u : Bool} → t ≡ u → not t ≡ false → u ≡ true
-passed {t} {u} e h = sym e ∙ not-false t h
-
-pub failed : {t u : Bool} → t ≡ u → not t ≡ true → u ≡ false
-failed {t} {u} e h = sym e ∙ not-true t h
+one-length-says m n e = let h = both (eqb m n) (leb m mostEntries) e in (eqb-true m n (h .0), leb-true m mostEntries (h .1))
 
 -- ---- the writer
 

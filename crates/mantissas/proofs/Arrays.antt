@@ -1,16 +1,19 @@
 -- A number for each bap, in an array.
-use mathlib.Core.Path.{_≡_, refl, fun-ext}
+use mathlib.Core.Path.{_≡_, refl, sym, ap, fun-ext, _∙_}
 use mathlib.Core.List.{List}
 use Prim.Native.Nat.{ℕ, zero, suc, _-_, _≤_, _<_}
 use native.Mathlib.Nat.{not-suc-le-zero}
 use native.Mathlib.Omega.{arith}
 use lib.Dec.{eqb}
 use lib.ListN.{length, getD, set, replicate}
-use lib.Seq.{getD-set-same, getD-set-other}
+use lib.Seq.{getD-set-same, getD-set-other, set-getD}
 use borrow.Author.Tests.{eqb-true, eqb-false}
+use Rattle.mantissas.specs.Inner.{Started}
 use Rattle.mantissas.specs.State.{by-bool, update, at}
 use Rattle.mantissas.specs.Stream.{left}
-use Rattle.mantissas.specs.Ranges.{size, row}
+use Rattle.mantissas.specs.Ranges.{size, width, groupSizes, row}
+use Rattle.tables.specs.Entry.{entry}
+use Rattle.tables.specs.Quantizer.{quantizationBits}
 
 pub at-set : (l : List ℕ) (b x : ℕ) → b < length l → at (set l b x) ≡ update (at l) b x
 unfolding at update
@@ -28,10 +31,6 @@ pub at-zeros : (n : ℕ) → at (replicate n 0) ≡ λ k. 0
 unfolding at
 at-zeros n = fun-ext (λ k. zeros-at n k)
 
--- less than a group is still to come of each bap
-pub record Started (st : List ℕ) : Type 0 where
-  pub less : (k : ℕ) → k < 16 → getD st k 0 < size k
-
 pub started-zeros : Started (replicate 16 0)
 started-zeros = record { less = λ k h. rw (zeros-at 16 k) (row k h .size-least) }
 
@@ -44,8 +43,43 @@ started-set {st} {b} {x} s h l =
           (λ e. rw (getD-set-other st b k x 0 (eqb-false k b e)) (s .less k hk));
     }
 
+-- of a field of its own nothing is to come
+pub alone-zero : {st : List ℕ} {b : ℕ} → Started st → b < 16 → size b ≡ 1 → getD st b 0 ≡ 0
+alone-zero {st} {b} s h one = omega (arith, s .less b h)
+
 -- one less to come
 pub less-one : (b n : ℕ) → 1 ≤ n → left b n ≡ n - 1
 unfolding left
 less-one b zero h = absurd (not-suc-le-zero h)
 less-one b (suc n) h = omega arith
+
+-- a number that is there already
+pub set-as-is : (l : List ℕ) (b x : ℕ) → getD l b 0 ≡ x → set l b x ≡ l
+set-as-is l b x e = ap (λ (z : ℕ). set l b z) (sym e) ∙ set-getD l b 0
+
+-- what is said of bap 0
+pub zero-width : width 0 ≡ 0
+unfolding width quantizationBits entry
+zero-width = refl
+
+pub zero-size : size 0 ≡ 1
+unfolding size groupSizes entry
+zero-size = refl
+
+-- the lists that are laid out: group sizes and widths by bap
+module _ (l : List ℕ) where
+  pub sizes-long : l ≡ groupSizes → length l ≡ 16
+  unfolding groupSizes
+  sizes-long e = rw e
+
+  pub size-listed : (b : ℕ) → l ≡ groupSizes → getD l b 0 ≡ size b
+  unfolding size entry
+  size-listed b e = rw e
+
+  pub widths-long : l ≡ quantizationBits → length l ≡ 16
+  unfolding quantizationBits
+  widths-long e = rw e
+
+  pub width-listed : (b : ℕ) → l ≡ quantizationBits → getD l b 0 ≡ width b
+  unfolding width entry
+  width-listed b e = rw e

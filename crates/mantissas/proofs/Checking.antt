@@ -1,6 +1,6 @@
 -- The tests of baps and codes, from a bin on: what is left decides.
-use mathlib.Core.Path.{_≡_, refl}
-use mathlib.Core.Bool.{Bool, true, false, cond}
+use mathlib.Core.Path.{_≡_, refl, sym}
+use mathlib.Core.Bool.{Bool, true, false, _&&_}
 use mathlib.Core.List.{List}
 use Prim.Native.Nat.{ℕ, _+_, _≤_, _<_}
 use native.Mathlib.Numerals.{add-one}
@@ -16,23 +16,23 @@ use Rattle.mantissas.specs.Stream.{coded, bapsFit}
 unfoldable pub bapsFrom : ℕ → List ℕ → Bool
 bapsFrom i bs = bapsFit (drop i bs)
 
-pub baps-start : (bs : List ℕ) → bapsFrom 0 bs ≡ bapsFit bs
+pub baps-start : (bs : List ℕ) → (true && bapsFrom 0 bs) ≡ bapsFit bs
 unfolding bapsFrom
 baps-start bs = refl
 
-baps-at : (i : ℕ) (bs : List ℕ) → i < length bs → bapsFrom i bs ≡ cond (ltb (getD bs i 0) 16) (bapsFrom (i + 1) bs) false
+baps-at : (i : ℕ) (bs : List ℕ) → i < length bs → bapsFrom i bs ≡ (ltb (getD bs i 0) 16 && bapsFrom (i + 1) bs)
 unfolding bapsFrom bapsFit
 baps-at i bs h = rw (drop-cons bs i 0 h, add-one)
 
-pub baps-next : (i : ℕ) (bs : List ℕ) → i < length bs → getD bs i 0 < 16 → bapsFrom (i + 1) bs ≡ bapsFrom i bs
-baps-next i bs h hb = rw (baps-at i bs h, lt-ltb (getD bs i 0) 16 hb)
+-- those before bin i, then bin i, then those behind it
+pub baps-next : (i : ℕ) (bs : List ℕ) (all : Bool) → i < length bs → ((all && ltb (getD bs i 0) 16) && bapsFrom (i + 1) bs) ≡ (all && bapsFrom i bs)
+baps-next i bs true h = sym (baps-at i bs h)
+baps-next i bs false h = refl
 
-pub baps-large : (i : ℕ) (bs : List ℕ) → i < length bs → 16 ≤ getD bs i 0 → false ≡ bapsFrom i bs
-baps-large i bs h hb = rw (baps-at i bs h, le-ltb (getD bs i 0) 16 hb)
-
-pub baps-end : (i : ℕ) (bs : List ℕ) → length bs ≤ i → true ≡ bapsFrom i bs
+pub baps-end : (i : ℕ) (bs : List ℕ) (all : Bool) → length bs ≤ i → all ≡ (all && bapsFrom i bs)
 unfolding bapsFrom bapsFit
-baps-end i bs h = rw (drop-of-length-le bs h)
+baps-end i bs true h = rw (drop-of-length-le bs h)
+baps-end i bs false h = refl
 
 -- ---- baps and codes
 
@@ -44,7 +44,7 @@ unfolding codedFrom
 coded-start bs cs = refl
 
 coded-at : (i : ℕ) (bs cs : List ℕ) → i < length bs → i < length cs → codedFrom i bs cs
-    ≡ cond (ltb (getD bs i 0) 16) (cond (ltb (getD cs i 0) (levels (getD bs i 0))) (codedFrom (i + 1) bs cs) false) false
+    ≡ (ltb (getD bs i 0) 16 && (ltb (getD cs i 0) (levels (getD bs i 0)) && codedFrom (i + 1) bs cs))
 unfolding codedFrom coded
 coded-at i bs cs h l = rw (drop-cons bs i 0 h, drop-cons cs i 0 l, add-one)
 

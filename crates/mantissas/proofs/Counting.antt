@@ -7,9 +7,10 @@ use native.Mathlib.Numerals.{add-one}
 use native.Mathlib.Omega.{arith}
 use lib.ListN.{length, drop, getD, set, replicate, length-append, drop-of-length-le}
 use lib.Seq.{drop-cons}
-use Rattle.mantissas.proofs.Arrays.{at-set, at-zeros, less-one}
+use Rattle.mantissas.proofs.Arrays.{at-set, at-zeros, less-one, set-as-is, size-listed, width-listed}
 use Rattle.mantissas.specs.Inner.{CountsOn}
-use Rattle.mantissas.specs.Ranges.{size, width}
+use Rattle.mantissas.specs.Ranges.{size, width, groupSizes, row}
+use Rattle.tables.specs.Quantizer.{quantizationBits}
 use Rattle.mantissas.specs.State.{at}
 use Rattle.mantissas.specs.Stream.{left, cost, countFrom, bitCount}
 use Rattle.mantissas.specs.declared.count.Tally.{Tally}
@@ -39,6 +40,19 @@ count-new {bs} {st} {st₀} {i} {n} {b} {w} {x} c h eb k e ew ex =
           rw (ew, ex, eb) (omega (arith, c .same more, z));
     }
 
+-- a field of its own, of which nothing is to come
+pub count-alone : {bs st st₀ : List ℕ} {i n b w : ℕ} → Counting bs st i n st₀ → i < length bs → b ≡ getD bs i 0 → b < length st → getD st b 0 ≡ 0
+    → size b ≡ 1 → w ≡ width b → Counting bs st (i + 1) (n + w) st₀
+unfolding cost left
+count-alone {bs} {st} {st₀} {i} {n} {b} {w} c h eb k e one ew =
+    let z : size b - 1 ≡ 0 = omega arith in
+    record {
+      same = λ more.
+          let q = step bs st more i 0 h (rw (← eb) k) (rw (← eb) e) in
+          let r = rw (← eb, z, set-as-is st b 0 e) at q in
+          rw ew (omega (arith, c .same more, r));
+    }
+
 no-cost : (b n : ℕ) → 1 ≤ n → cost b n ≡ 0
 unfolding cost
 no-cost b zero h = absurd (not-suc-le-zero h)
@@ -53,6 +67,13 @@ count-old {bs} {st} {st₀} {i} {n} {b} {l} c h eb k el hl =
           let z = rw (no-cost (getD bs i 0) l hl, less-one (getD bs i 0) l hl) at (step bs st more i l h (rw (← eb) k) (rw (← eb) (sym el))) in
           rw eb (omega (arith, c .same more, z));
     }
+
+-- by the lists that are laid out: a field has at most 16 bits, and a group a code
+pub few-bits : (widths : List ℕ) (b : ℕ) → widths ≡ quantizationBits → b < 16 → getD widths b 0 ≤ 16
+few-bits widths b e h = omega (arith, width-listed widths b e, row b h .width-most)
+
+pub some-size : (sizes : List ℕ) (b : ℕ) → sizes ≡ groupSizes → b < 16 → 1 ≤ getD sizes b 0
+some-size sizes b e h = omega (arith, size-listed sizes b e, row b h .size-least)
 
 pub count-end : {bs st : List ℕ} {i : ℕ} (t : Tally) → Counting bs (t .left) i (t .bits) st → length bs ≤ i → t .bits ≤ 16 * length bs → CountsOn bs st t
 count-end {bs} {st} {i} t c h m = record { same = λ more. rw (drop-of-length-le bs h) at (c .same more); most = m }

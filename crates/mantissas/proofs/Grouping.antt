@@ -9,18 +9,19 @@ use lib.ListN.{length, drop, getD, drop-of-length-le}
 use lib.Seq.{drop-cons}
 use Rattle.mantissas.proofs.Values.{pow-one}
 use Rattle.mantissas.specs.Inner.{groupAt}
-use Rattle.mantissas.specs.ReadBack.{of-same, of-other, of-below, group-lt}
-use Rattle.mantissas.specs.Digits.{pack, padded, length-padded}
+use Rattle.mantissas.specs.ReadBack.{ofBap-same, ofBap-other, ofBap-below, group-lt}
+use Rattle.mantissas.specs.Digits.{pack, padded}
+use Rattle.mantissas.specs.DigitsLaws.{length-padded}
 use Rattle.mantissas.specs.CodedLaws.{coded-drop}
-use Rattle.mantissas.specs.Stream.{Coded, of, group}
+use Rattle.mantissas.specs.Stream.{Coded, ofBap, groupCode}
 use Rattle.mantissas.specs.Ranges.{size, levels, row}
 
 -- v of the codes before bin j, and n codes from there on, are the group at i
 pub record Grouping (bs cs : List ℕ) (b i j n v : ℕ) : Type 0 where
-  pub eq : v * levels b ^ n + pack (levels b) (padded n (of b (drop j bs) (drop j cs))) ≡ groupAt i bs cs
+  pub eq : v * levels b ^ n + pack (levels b) (padded n (ofBap b (drop j bs) (drop j cs))) ≡ groupAt i bs cs
 
 pub group-start : {bs cs : List ℕ} {b i n : ℕ} → b ≡ getD bs i 0 → n ≡ size b → Grouping bs cs b i i n 0
-unfolding groupAt group
+unfolding groupAt groupCode
 group-start {bs} {cs} {b} {i} {n} eb en = record { eq = rw (en, eb) (omega arith) }
 
 pad-one : (m n v : ℕ) → 1 ≤ n → v * m ^ n + pack m (padded n []) ≡ v * m * m ^ (n - 1) + pack m (padded (n - 1) [])
@@ -38,7 +39,7 @@ take-one m (suc n) v c l h =
 -- past the end: a code is missing
 pub group-pad : {bs cs : List ℕ} {b i j n v m missing : ℕ} → Grouping bs cs b i j n v → length bs ≤ j → 1 ≤ n → m ≡ levels b → missing ≡ 0
     → Grouping bs cs b i j (n - 1) (v * m + missing)
-unfolding of
+unfolding ofBap
 group-pad {bs} {cs} {b} {i} {j} {n} {v} {m} {missing} g h k e none =
     let p : v * m + missing ≡ v * levels b = rw (none, e) (omega arith) in
     let z = rw (drop-of-length-le bs h) at (g .eq) in
@@ -48,8 +49,8 @@ group-pad {bs} {cs} {b} {i} {j} {n} {v} {m} {missing} g h k e none =
 pub group-take : {bs cs : List ℕ} {b i j n v m : ℕ} → Grouping bs cs b i j n v → j < length bs → j < length cs → getD bs j 0 ≡ b → 1 ≤ n → m ≡ levels b
     → Grouping bs cs b i (j + 1) (n - 1) (v * m + getD cs j 0)
 group-take {bs} {cs} {b} {i} {j} {n} {v} {m} g h l eb k e =
-    let f : of b (drop j bs) (drop j cs) ≡ getD cs j 0 ∷ of b (drop (suc j) bs) (drop (suc j) cs) =
-    rw (drop-cons bs j 0 h, drop-cons cs j 0 l, eb, of-same) in
+    let f : ofBap b (drop j bs) (drop j cs) ≡ getD cs j 0 ∷ ofBap b (drop (suc j) bs) (drop (suc j) cs) =
+    rw (drop-cons bs j 0 h, drop-cons cs j 0 l, eb, ofBap-same) in
     let z = rw f at (g .eq) in
     record { eq = rw (e, add-one) (sym (take-one (levels b) n v (getD cs j 0) _ k) ∙ z) }
 
@@ -57,8 +58,8 @@ group-take {bs} {cs} {b} {i} {j} {n} {v} {m} g h l eb k e =
 pub group-skip : {bs cs : List ℕ} {b i j n v : ℕ} → Grouping bs cs b i j n v → j < length bs → j < length cs → (getD bs j 0 ≡ b → ⊥)
     → Grouping bs cs b i (j + 1) n v
 group-skip {bs} {cs} {b} {i} {j} {n} {v} g h l ne =
-    let f : of b (drop j bs) (drop j cs) ≡ of b (drop (suc j) bs) (drop (suc j) cs) =
-    rw (drop-cons bs j 0 h, drop-cons cs j 0 l, of-other b (getD bs j 0) (getD cs j 0) (drop (suc j) bs) (drop (suc j) cs) (λ q. ne (sym q))) in
+    let f : ofBap b (drop j bs) (drop j cs) ≡ ofBap b (drop (suc j) bs) (drop (suc j) cs) =
+    rw (drop-cons bs j 0 h, drop-cons cs j 0 l, ofBap-other b (getD bs j 0) (getD cs j 0) (drop (suc j) bs) (drop (suc j) cs) (λ q. ne (sym q))) in
     record { eq = rw (add-one, ← f) (g .eq) }
 
 pub group-end : {bs cs : List ℕ} {b i j n v : ℕ} → Grouping bs cs b i j n v → n ≡ 0 → v ≡ groupAt i bs cs
@@ -70,7 +71,7 @@ pub group-small : {bs cs : List ℕ} (i : ℕ) → Coded bs cs → getD bs i 0 <
 unfolding groupAt
 group-small {bs} {cs} i h hb =
     let r = row (getD bs i 0) hb in
-    lt-of-lt-of-le (group-lt (getD bs i 0) _ r (of-below (getD bs i 0) (coded-drop i h))) (r .whole)
+    lt-of-lt-of-le (group-lt (getD bs i 0) _ r (ofBap-below (getD bs i 0) (coded-drop i h))) (r .whole)
 
 pub group-room : {bs cs : List ℕ} {b i j n v m : ℕ} → Grouping bs cs b i j n v → Coded bs cs → b ≡ getD bs i 0 → b < 16 → 1 ≤ n → m ≡ levels b → v * m < 65536
 group-room {bs} {cs} {b} {i} {j} {n} {v} {m} g h eb hb k e =
@@ -79,3 +80,11 @@ group-room {bs} {cs} {b} {i} {j} {n} {v} {m} g h eb hb k e =
     let q : v * levels b ≤ v * levels b ^ n = mul-le-mul-left v (rw (pow-one (levels b)) at p) in
     let s = group-small i h (rw eb at hb) in
     rw e (omega (arith, g .eq))
+
+-- a code with a field of its own is the field's value
+pub group-alone : (bs cs : List ℕ) (i : ℕ) → i < length bs → i < length cs → size (getD bs i 0) ≡ 1 → getD cs i 0 ≡ groupAt i bs cs
+unfolding groupAt groupCode padded pack
+group-alone bs cs i h l one =
+    let f : ofBap (getD bs i 0) (drop i bs) (drop i cs) ≡ getD cs i 0 ∷ ofBap (getD bs i 0) (drop (suc i) bs) (drop (suc i) cs) =
+    rw (drop-cons bs i 0 h, drop-cons cs i 0 l, ofBap-same) in
+    rw (one, f, pow-zero) (omega arith)

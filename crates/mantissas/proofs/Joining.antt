@@ -9,9 +9,9 @@ use lib.Dec.{ltb}
 use lib.ListN.{length, take, drop, getD, replicate, length-take, length-drop}
 use Rattle.bits.specs.Parts.{joined}
 use Rattle.bits.specs.PartsLaws.{joined-zero, joined-more}
-use Rattle.mantissas.specs.Blocks.{partBaps, blockBaps, Ends}
+use Rattle.mantissas.specs.Blocks.{partBaps, blockBaps}
 use Rattle.mantissas.specs.Digits.{Below, nil, cons}
-use Rattle.mantissas.specs.Inner.{CountsOn}
+use Rattle.mantissas.specs.Inner.{CountsOn, Ends}
 use Rattle.mantissas.proofs.Counting.{count-then, count-none, count-all}
 use Rattle.mantissas.specs.State.{by-bool}
 use Rattle.mantissas.specs.Stream.{bapsFit, bitCount}

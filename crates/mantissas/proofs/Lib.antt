@@ -2,7 +2,6 @@ pub mod Answers
 pub mod Arrays
 pub mod Joining
 pub mod Checking
-pub mod Clearing
 pub mod Counting
 pub mod GroupReading
 pub mod Grouping

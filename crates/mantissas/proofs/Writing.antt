@@ -13,11 +13,11 @@ use Rattle.bits.specs.FieldLaws.{length-field}
 use Rattle.bits.specs.Write.{Put, Ready}
 use Rattle.bits.specs.WriteLaws.{and-then, and-none, ready-next}
 use Rattle.bits.specs.declared.write.Writer.{Writer}
-use Rattle.mantissas.proofs.Arrays.{at-set, at-zeros, less-one}
+use Rattle.mantissas.proofs.Arrays.{at-set, at-zeros, less-one, set-as-is, zero-width, zero-size}
 use Rattle.mantissas.specs.Inner.{groupAt}
-use Rattle.mantissas.specs.ReadBack.{of-same}
+use Rattle.mantissas.specs.ReadBack.{ofBap-same}
 use Rattle.mantissas.specs.State.{at}
-use Rattle.mantissas.specs.Stream.{of, here, left, fields, stream}
+use Rattle.mantissas.specs.Stream.{ofBap, fieldAt, left, fields, stream}
 use Rattle.mantissas.specs.Ranges.{size, width}
 
 pub record Writing (bs cs o : List ℕ) (w : Writer) (o' : List ℕ) (w' : Writer) (st : List ℕ) (i : ℕ) : Type 0 where
@@ -31,16 +31,16 @@ write-start {bs} {cs} {o} {w} f s = record { done = []; put = and-none o w f s; 
 
 step : (bs cs st : List ℕ) (i b l : ℕ) → i < length bs → i < length cs → b ≡ getD bs i 0 → b < length st → getD st b 0 ≡ l
     → fields (at st) (drop i bs) (drop i cs)
-    ≡ here b l (of b (drop i bs) (drop i cs)) ++ fields (at (set st b (left b l))) (drop (i + 1) bs) (drop (i + 1) cs)
+    ≡ fieldAt b l (ofBap b (drop i bs) (drop i cs)) ++ fields (at (set st b (left b l))) (drop (i + 1) bs) (drop (i + 1) cs)
 unfolding fields
 step bs cs st i b l h hc eb k e =
     let f : at st b ≡ l = unfold at in e in
-    rw (add-one, drop-cons bs i 0 h, drop-cons cs i 0 hc, ← eb, of-same, f, at-set st b (left b l) k)
+    rw (add-one, drop-cons bs i 0 h, drop-cons cs i 0 hc, ← eb, ofBap-same, f, at-set st b (left b l) k)
 
 module _ {bs cs o o' st : List ℕ} {w w' : Writer} {i b n v : ℕ} (g : Writing bs cs o w o' w' st i) (h : i < length bs) (hc : i < length cs)
     (eb : b ≡ getD bs i 0) (k : b < length st) (e : getD st b 0 ≡ 0) (ev : v ≡ groupAt i bs cs) (en : n ≡ width b) where
   next : (g .done ++ field n v) ++ fields (at (set st b (size b - 1))) (drop (i + 1) bs) (drop (i + 1) cs) ≡ stream bs cs
-  unfolding here left groupAt
+  unfolding fieldAt left groupAt
   next =
       append-assoc (g .done) (field n v) _ ∙ rw (en, ev, ← eb) (rw (step bs cs st i b 0 h hc eb k e) at (g .whole))
 
@@ -56,8 +56,16 @@ module _ {bs cs o o' st : List ℕ} {w w' : Writer} {i b n v : ℕ} (g : Writing
   pub write-new : {o'' : List ℕ} {w'' : Writer} {x : ℕ} → x ≡ size b → Put o' w' (field n v) o'' w'' → Writing bs cs o w o'' w'' (set st b (x - 1)) (i + 1)
   write-new {o''} {w''} {x} ex p = record { done = g .done ++ field n v; put = and-then (g .put) p; whole = rw ex next }
 
-no-field : (b n : ℕ) (l : List ℕ) → 1 ≤ n → here b n l ≡ []
-unfolding here
+-- bap 0 has no bits, and nothing of it is to come
+pub write-none : {bs cs o o' st : List ℕ} {w w' : Writer} {i b : ℕ} → Writing bs cs o w o' w' st i → i < length bs → i < length cs
+    → b ≡ getD bs i 0 → b < length st → getD st b 0 ≡ 0 → b ≡ 0 → Writing bs cs o w o' w' st (i + 1)
+unfolding fieldAt left field
+write-none {bs} {cs} {o} {o'} {st} {w} {w'} {i} {b} g h hc eb k e z =
+    let q = rw (z, zero-width, zero-size, set-as-is st 0 0 (rw z at e)) at (step bs cs st i b 0 h hc eb k e) in
+    record { done = g .done; put = g .put; whole = rw q at (g .whole) }
+
+no-field : (b n : ℕ) (l : List ℕ) → 1 ≤ n → fieldAt b n l ≡ []
+unfolding fieldAt
 no-field b zero l h = absurd (not-suc-le-zero h)
 no-field b (suc n) l h = refl
 

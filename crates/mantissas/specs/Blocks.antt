@@ -1,8 +1,8 @@
--- The mantissa bits of a frame's six blocks (000 `mantissa_bits_total_ends`, coupling off), told by a sheet and the buffer of baps.
+-- The mantissa bits of a frame's six blocks, told by a sheet and the buffer of baps (000 `mantissa_bits_total_ends`, coupling off, gives their sum).
 -- Groups run over the channels of a block and never into the next block (A/52 7.3.5); entries from a channel's end on are ignored.
 use mathlib.Core.Bool.{not, cond}
 use mathlib.Core.List.{List}
-use Prim.Native.Nat.{ℕ, _<_, _≤_}
+use Prim.Native.Nat.{ℕ}
 use lib.Dec.{eqb}
 use lib.ListN.{length, take, drop, getD, replicate}
 use Rattle.bits.specs.Parts.{joined, tab}
@@ -14,11 +14,11 @@ use Rattle.sheet.specs.Layout.{bufferLength, partStart}
 use Rattle.sheet.specs.Record.{endsOf}
 use Rattle.sheet.specs.Sheet.{checkOf}
 
--- the baps of a channel's part below its end
+-- the baps of a channel's part below its end (document 01, "The track sheet": where a part starts)
 unfoldable pub partBaps : ℕ → List ℕ → List ℕ → ℕ → ℕ → List ℕ
 partBaps channels ends bap block c = take (getD ends c 0) (drop (partStart channels block c) bap)
 
--- the baps of a block, by channel number and bin
+-- the baps of a block, by channel number and bin (document 01, "The frame body")
 unfoldable pub blockBaps : ℕ → List ℕ → List ℕ → ℕ → List ℕ
 blockBaps channels ends bap block = joined channels (partBaps channels ends bap block)
 
@@ -26,20 +26,15 @@ blockBaps channels ends bap block = joined channels (partBaps channels ends bap 
 abbrev pub noBits : ℕ → MantissaBits
 noBits k = record { refusal = k; counts = replicate 6 0 }
 
--- of a buffer of baps, the number of channels and their ends known
+-- the refusals 10 and 5 of a buffer of baps, or the counts; the number of channels and their ends are known
 unfoldable pub blocksAnswer : ℕ → List ℕ → List ℕ → MantissaBits
 blocksAnswer channels ends bap =
     cond (not (eqb (length bap) (bufferLength channels))) (noBits refusal.wrongLength)
     (cond (not (bapsFit (joined 6 (blockBaps channels ends bap)))) (noBits refusal.badCode)
     (record { refusal = refusal.accepted; counts = tab 6 (λ block. bitCount (blockBaps channels ends bap block)) }))
 
--- `mantissa_bits_total_ends`
+-- `mantissa_bits_total_ends`: 1 and 2 as `check_sheet` finds them, then as above
 unfoldable pub totalAnswer : List ℕ → List ℕ → MantissaBits
 totalAnswer sheet bap =
     cond (not (eqb (checkOf sheet) refusal.accepted)) (noBits (checkOf sheet))
     (blocksAnswer (channelsOf (commonOf sheet)) (endsOf sheet) bap)
-
--- what the code asks of the number of channels and their ends, and an accepted sheet has
-pub record Ends (channels : ℕ) (ends : List ℕ) : Type 0 where
-  pub channels-most : channels ≤ 6
-  pub end-most : (c : ℕ) → c < channels → getD ends c 0 ≤ 256

@@ -18,6 +18,7 @@ use Rattle.sheet.specs.Layout.{bufferLength}
 use Rattle.sheet.specs.Record.{endsOf}
 use Rattle.sheet.specs.Sheet.{checkOf}
 
+-- with the number of channels and their ends known
 pub blocks-are-lengths : (channels : ℕ) (ends bap : List ℕ) (block : ℕ) (cs : List ℕ) → blocksAnswer channels ends bap .refusal ≡ refusal.accepted
     → block < 6 → Coded (blockBaps channels ends bap block) cs
     → getD (blocksAnswer channels ends bap .counts) block 0 ≡ length (stream (blockBaps channels ends bap block) cs)
@@ -30,6 +31,7 @@ blocks-are-lengths channels ends bap block cs accepted h c =
     (λ f. let z : refusal.badCode ≡ refusal.accepted = rw (e, f) at accepted in absurd (omega arith)))
     (λ e. let z : refusal.wrongLength ≡ refusal.accepted = rw e at accepted in absurd (omega arith))
 
+-- under a sheet
 pub counts-are-lengths : (sheet bap : List ℕ) (block : ℕ) (cs : List ℕ) → totalAnswer sheet bap .refusal ≡ refusal.accepted → block < 6
     → Coded (blockBaps (channelsOf (commonOf sheet)) (endsOf sheet) bap block) cs
     → getD (totalAnswer sheet bap .counts) block 0 ≡ length (stream (blockBaps (channelsOf (commonOf sheet)) (endsOf sheet) bap block) cs)

@@ -1,5 +1,5 @@
 -- What the two calls of a mantissa stream answer on every input, the refusals in the order of document 01, "When a call is turned back".
-use mathlib.Core.Bool.{Bool, false, not, cond}
+use mathlib.Core.Bool.{Bool, not, _&&_, cond}
 use mathlib.Core.List.{List}
 use Prim.Native.Nat.{ℕ, _-_}
 use lib.Dec.{eqb, leb, ltb}
@@ -11,15 +11,15 @@ use Rattle.bits.specs.Refusal as refusal
 use Rattle.bits.specs.declared.answer.Answer.{Answer}
 use Rattle.mantissas.specs.Stream.{coded, bapsFit, stream, readStream}
 
--- document 01, "The track sheet": six channels of 256 bins
+-- six channels of 256 bins
 abbrev pub mostEntries : ℕ
 mostEntries = 1536
 
--- document 01: "two of one length, at most 1,536"
+-- document 01, "The track sheet": "mantissa stream: two of one length, at most 1,536"
 unfoldable pub oneLength : ℕ → ℕ → Bool
-oneLength m n = cond (eqb m n) (leb m mostEntries) false
+oneLength m n = eqb m n && leb m mostEntries
 
--- `write_mantissa_stream` into an output of `room` bytes: the number of bits
+-- `write_mantissa_stream` into an output of `room` bytes: 10, 5, 6, or the number of bits
 unfoldable pub writeAnswer : ℕ → List ℕ → List ℕ → Answer
 writeAnswer room bs cs =
     cond (not (oneLength (length bs) (length cs))) (turnedBack refusal.wrongLength)
@@ -27,7 +27,7 @@ writeAnswer room bs cs =
     (cond (ltb room (bytesFor (length (stream bs cs)))) (turnedBack refusal.noRoom)
     (gives (length (stream bs cs)))))
 
--- a reading that came to an end of `long` bits: the number of bits read; a fault's number
+-- the answer to a reading of `long` bits: how many were read, or the fault's number, 7 or 9
 unfoldable pub readOf : ℕ → Outcome (List ℕ) → Answer
 readOf long (ok cs rest) = gives (long - length rest)
 readOf long (fault k) = turnedBack k
@@ -37,14 +37,14 @@ unfoldable pub codesOf : ℕ → Outcome (List ℕ) → List ℕ
 codesOf n (ok cs rest) = cs
 codesOf n (fault k) = replicate n 0
 
--- `read_mantissa_stream` of these bits into n codes: the number of bits read
+-- `read_mantissa_stream` of these bits into n codes: 10, 5, then 7 and 9 as met, or the number of bits read
 unfoldable pub readAnswer : List Bool → List ℕ → ℕ → Answer
 readAnswer bits bs n =
     cond (not (oneLength (length bs) n)) (turnedBack refusal.wrongLength)
     (cond (not (bapsFit bs)) (turnedBack refusal.badCode)
     (readOf (length bits) (readStream bs bits)))
 
--- and what it leaves in the codes
+-- and what it leaves in the codes: 10 and 5 leave them as they were
 unfoldable pub codesAfter : List Bool → List ℕ → List ℕ → List ℕ
 codesAfter bits bs codes =
     cond (not (oneLength (length bs) (length codes))) codes

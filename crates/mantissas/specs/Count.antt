@@ -1,6 +1,5 @@
--- How many bits a stream has: the baps alone tell it, by 5⌈n1/3⌉ + 7⌈n2/3⌉ + 7⌈n4/2⌉ and the widths of the ungrouped (document 01, "The frame body").
+-- How many bits a stream has: the baps alone tell it, and it is document 01's formula.
 use mathlib.Core.Path.{_≡_, refl, sym, ap₂, _∙_}
-use mathlib.Core.Bool.{cond}
 use mathlib.Core.List.{List, [], _∷_}
 use Prim.Native.Nat.{ℕ, zero, suc, _+_, _-_, _*_, _/_, _≤_, _<_}
 use native.Mathlib.Nat.{add-div-right, sub-zero, add-zero, div-one, div-eq-of-lt, mul-zero}
@@ -11,38 +10,31 @@ use borrow.Author.Tests.{eqb-true, eq-eqb, ne-eqb, ltb-true, ltb-false}
 use Rattle.bits.specs.FieldLaws.{length-field}
 use Rattle.mantissas.specs.CodedLaws.{coded-baps}
 use Rattle.mantissas.specs.Digits.{Below, nil, cons}
+use Rattle.mantissas.specs.Formula.{formula}
 use Rattle.mantissas.specs.State.{by-bool, update, update-same, update-other}
-use Rattle.mantissas.specs.Stream.{Coded, empty, bin, of, group, here, left, fields, stream, cost, countFrom, bitCount}
+use Rattle.mantissas.specs.Stream.{Coded, empty, bin, ofBap, groupCode, fieldAt, left, fields, stream, cost, countFrom, bitCount}
 use Rattle.mantissas.specs.Ranges.{size, width, groupSizes, row}
 use Rattle.tables.specs.Entry.{entry}
 use Rattle.tables.specs.Quantizer.{quantizationBits}
+-- passed on, for those who cite the laws
+unfoldable pub use Rattle.mantissas.specs.Formula.{count, alone, sum}
 
-pub length-here : (b n : ℕ) (l : List ℕ) → length (here b n l) ≡ cost b n
-unfolding here cost
-length-here b zero l = length-field (width b) (group b l)
-length-here b (suc n) l = refl
+pub length-fieldAt : (b n : ℕ) (l : List ℕ) → length (fieldAt b n l) ≡ cost b n
+unfolding fieldAt cost
+length-fieldAt b zero l = length-field (width b) (groupCode b l)
+length-fieldAt b (suc n) l = refl
 
 pub length-fields : {bs cs : List ℕ} (s : ℕ → ℕ) → Coded bs cs → length (fields s bs cs) ≡ countFrom s bs
 unfolding fields countFrom
 length-fields s empty = refl
 length-fields s (bin {b} {c} {bs} {cs} hb hc h) =
-    rw (length-append, length-here b (s b) (c ∷ of b bs cs), length-fields (update s b (left b (s b))) h)
+    rw (length-append, length-fieldAt b (s b) (c ∷ ofBap b bs cs), length-fields (update s b (left b (s b))) h)
 
 pub length-stream : {bs cs : List ℕ} → Coded bs cs → length (stream bs cs) ≡ bitCount bs
 unfolding stream bitCount
 length-stream h = length-fields (λ k. 0) h
 
--- ---- by kinds
-
--- how many bins have the bap k
-unfoldable pub count : ℕ → List ℕ → ℕ
-count k [] = 0
-count k (b ∷ bs) = cond (eqb k b) (1 + count k bs) (count k bs)
-
--- the sum of f 0, .. , f (n - 1)
-unfoldable pub sum : (ℕ → ℕ) → ℕ → ℕ
-sum f zero = 0
-sum f (suc n) = sum f n + f n
+-- ---- by baps
 
 sum-same : (f g : ℕ → ℕ) (n : ℕ) → ((k : ℕ) → k < n → f k ≡ g k) → sum f n ≡ sum g n
 unfolding sum
@@ -131,22 +123,13 @@ count-from s (cons {x = b} {l = bs} hb h) st =
     (sym (sum-step (part s (b ∷ bs)) (part (update s b (left b (s b))) bs) b (cost b (s b)) 16 hb
     (part-same s b bs hb (st b hb)) (λ k ne. part-other s b k (left b (s b)) bs ne)))
 
--- the bits of the codes that have a field each
-unfoldable pub alone : List ℕ → ℕ
-alone bs =
-    3 * count 3 bs + 4 * count 5 bs + 5 * count 6 bs + 6 * count 7 bs + 7 * count 8 bs + 8 * count 9 bs
-    + 9 * count 10 bs + 10 * count 11 bs + 11 * count 12 bs + 12 * count 13 bs + 14 * count 14 bs + 16 * count 15 bs
-
-all-parts : (bs : List ℕ) → sum (part (λ k. 0) bs) 16
-    ≡ 5 * ((count 1 bs + 2) / 3) + 7 * ((count 2 bs + 2) / 3) + 7 * ((count 4 bs + 1) / 2) + alone bs
+all-parts : (bs : List ℕ) → sum (part (λ k. 0) bs) 16 ≡ formula bs
 unfolding alone part sum size width groupSizes quantizationBits entry
 all-parts bs = simp (sub-zero, add-zero, div-one) (omega arith)
 
-pub bit-count : {bs : List ℕ} → Below 16 bs
-    → bitCount bs ≡ 5 * ((count 1 bs + 2) / 3) + 7 * ((count 2 bs + 2) / 3) + 7 * ((count 4 bs + 1) / 2) + alone bs
+pub bit-count : {bs : List ℕ} → Below 16 bs → bitCount bs ≡ formula bs
 unfolding bitCount
 bit-count {bs} h = count-from (λ k. 0) h (λ k l. omega arith) ∙ all-parts bs
 
-pub length-stream-formula : {bs cs : List ℕ} → Coded bs cs
-    → length (stream bs cs) ≡ 5 * ((count 1 bs + 2) / 3) + 7 * ((count 2 bs + 2) / 3) + 7 * ((count 4 bs + 1) / 2) + alone bs
+pub length-stream-formula : {bs cs : List ℕ} → Coded bs cs → length (stream bs cs) ≡ formula bs
 length-stream-formula h = length-stream h ∙ bit-count (coded-baps h)

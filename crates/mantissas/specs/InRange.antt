@@ -1,5 +1,5 @@
--- Every code that is read is in range for its bap.
-use mathlib.Core.Path.{_≡_, refl}
+-- Every code that is read is in range for its bap, whatever the bits are.
+use mathlib.Core.Path.{_≡_}
 use mathlib.Core.Bool.{Bool}
 use mathlib.Core.List.{List, [], _∷_, headD, tail}
 use Prim.Native.Nat.{ℕ, zero, suc, _^_, _≤_, _<_}
@@ -7,27 +7,26 @@ use native.Mathlib.Omega.{arith}
 use lib.Dec.{eqb, ltb}
 use borrow.Author.Tests.{eqb-true, ltb-true}
 use Rattle.bits.specs.Reading.{Outcome, ok, fault, then, readBits}
+use Rattle.bits.specs.Readers.{fault-not-ok}
+use Rattle.bits.specs.ReadingLaws.{then-ok}
 use Rattle.bits.specs.Refusal as refusal
-use Rattle.mantissas.specs.Digits.{digits, Below, nil, cons, digits-below}
+use Rattle.mantissas.specs.Digits.{digits, Below, nil, cons}
+use Rattle.mantissas.specs.DigitsLaws.{digits-below}
 use Rattle.mantissas.specs.Ranges.{size, levels, width, row}
 use Rattle.mantissas.specs.State.{by-bool, update}
 use Rattle.mantissas.specs.Stream.{Coded, empty, bin, judged, readGroup, members, readFrom, readStream}
 
--- a reading that went on and came to an end: what was read on the way
-pub then-ok : {A B : Type 0} {X : Type 0} (o : Outcome A) (f : A → List Bool → Outcome B) (b : B) (r : List Bool) → then o f ≡ ok b r
-    → ((a : A) (t : List Bool) → o ≡ ok a t → f a t ≡ ok b r → X) → X
-then-ok (ok a t) f b r e k = k a t refl e
-then-ok (fault j) f b r e k = let z : _≡_ {A = ℕ} 0 1 = cc in absurd (omega arith)
-
+-- what a reading gives is one value
 ok-value : {A : Type 0} (a b : A) (r s : List Bool) → _≡_ {A = Outcome A} (ok a r) (ok b s) → a ≡ b
 ok-value a b r s e = cc
 
+-- a value that is not refused is a group's
 judged-lt : (b v : ℕ) (rest : List Bool) (x : ℕ) (t : List Bool) → judged b v rest ≡ ok x t → x < levels b ^ size b
 unfolding judged
 judged-lt b v rest x t e =
     by-bool (ltb v (levels b ^ size b))
     (λ q. let z : v ≡ x = ok-value v x rest t (rw q at e) in rw (← z) (ltb-true v (levels b ^ size b) q))
-    (λ q. let f : _≡_ {A = Outcome ℕ} (fault refusal.noCode) (ok x t) = rw q at e in let z : _≡_ {A = ℕ} 0 1 = cc in absurd (omega arith))
+    (λ q. let f : _≡_ {A = Outcome ℕ} (fault refusal.noCode) (ok x t) = rw q at e in absurd (fault-not-ok f))
 
 -- the codes at hand: at least one, each in range
 pub data Handful (m : ℕ) : List ℕ → Type 0 where
@@ -52,6 +51,7 @@ members-handful b (c ∷ p) bits q t hb (cons hc hp) e =
     let z : c ∷ p ≡ q = ok-value (c ∷ p) q bits t e in
     rw (← z) (some hc hp)
 
+-- the codes that wait are in range
 abbrev Waiting : (ℕ → List ℕ) → Type 0
 Waiting p = (k : ℕ) → Below (levels k) (p k)
 

@@ -1,4 +1,5 @@
--- Contracts of the inner functions: the value of the group that begins at a bin, what reading a group's field gives, a count that goes on.
+-- Contracts of the inner functions: the value of the group that begins at a bin, what reading a group's field gives, a count that goes on,
+-- and what is asked of a sheet's ends.
 use mathlib.Core.Path.{_≡_}
 use mathlib.Core.Bool.{Bool}
 use mathlib.Core.List.{List, _++_}
@@ -8,14 +9,14 @@ use Rattle.bits.specs.Read.{from}
 use Rattle.bits.specs.Reading.{ok, fault}
 use Rattle.bits.specs.Refusal as refusal
 use Rattle.bits.specs.declared.answer.Answer.{Answer}
-use Rattle.mantissas.specs.Ranges.{width}
-use Rattle.mantissas.specs.Stream.{of, group, countFrom, readGroup}
+use Rattle.mantissas.specs.Ranges.{size, width}
+use Rattle.mantissas.specs.Stream.{ofBap, groupCode, countFrom, readGroup}
 use Rattle.mantissas.specs.State.{at}
 use Rattle.mantissas.specs.declared.count.Tally.{Tally}
 
 -- the value of the field that begins at bin i
 unfoldable pub groupAt : ℕ → List ℕ → List ℕ → ℕ
-groupAt i bs cs = group (getD bs i 0) (of (getD bs i 0) (drop i bs) (drop i cs))
+groupAt i bs cs = groupCode (getD bs i 0) (ofBap (getD bs i 0) (drop i bs) (drop i cs))
 
 -- r is what reading a field of bap b at pos gives: the group's value, or the fault's number
 pub record GroupRead (b : ℕ) (bits : List Bool) (pos : ℕ) (r : Answer) : Type 0 where
@@ -24,7 +25,16 @@ pub record GroupRead (b : ℕ) (bits : List Bool) (pos : ℕ) (r : Answer) : Typ
   pub there : r .refusal ≡ refusal.accepted → pos + width b ≤ length bits
   pub small : r .value < 65536
 
+-- less than a group is still to come of each bap
+pub record Started (st : List ℕ) : Type 0 where
+  pub less : (k : ℕ) → k < 16 → getD st k 0 < size k
+
 -- the baps bs were counted from the state st on, with the tally t: whatever comes after them, the whole is the same
 pub record CountsOn (bs st : List ℕ) (t : Tally) : Type 0 where
   pub same : (more : List ℕ) → t .bits + countFrom (at (t .left)) more ≡ countFrom (at st) (bs ++ more)
   pub most : t .bits ≤ 16 * length bs
+
+-- what the count of blocks asks of the number of channels and their ends; an accepted sheet has it
+pub record Ends (channels : ℕ) (ends : List ℕ) : Type 0 where
+  pub channels-most : channels ≤ 6
+  pub end-most : (c : ℕ) → c < channels → getD ends c 0 ≤ 256

@@ -1,14 +1,16 @@
 pub mod Ranges
 pub mod State
 pub mod Digits
+pub mod DigitsLaws
 pub mod Stream
 pub mod CodedLaws
 pub mod ReadBack
 pub mod InRange
+pub mod Formula
 pub mod Count
-pub mod Cases
 pub mod Calls
 pub mod Inner
 pub mod Blocks
 pub mod BlocksLaws
 pub mod BapZero
+pub mod Cases

@@ -1,4 +1,4 @@
--- Something for each bap: a function, changed at one place.
+-- Something for each bap, as the writer, the count and the reader keep it: a function of the bap, changed at one place.
 use mathlib.Core.Path.{_≡_, refl}
 use mathlib.Core.Bool.{Bool, true, false, cond}
 use mathlib.Core.List.{List}
@@ -12,6 +12,7 @@ pub by-bool {ℓ} : {X : Type ℓ} (t : Bool) → (t ≡ true → X) → (t ≡ 
 by-bool true f g = f refl
 by-bool false f g = g refl
 
+-- x at b, as before elsewhere
 unfoldable pub update : {A : Type 0} → (ℕ → A) → ℕ → A → ℕ → A
 update s b x k = cond (eqb k b) x (s k)
 

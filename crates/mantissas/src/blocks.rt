@@ -8,8 +8,9 @@ ghost use mathlib.Core.Path.{_≡_};
 ghost use Prim.Native.Nat.{_<_};
 ghost use lib.ListN.{length};
 ghost use Rattle.bits.specs.Parts.{joined, tab};
-ghost use Rattle.mantissas.specs.Blocks.{blockBaps, noBits, blocksAnswer, totalAnswer, Ends};
+ghost use Rattle.mantissas.specs.Blocks.{blockBaps, noBits, blocksAnswer, totalAnswer};
 ghost use Rattle.mantissas.specs.Digits.{Below};
+ghost use Rattle.mantissas.specs.Inner.{Ends};
 ghost use Rattle.mantissas.specs.Stream.{bapsFit, bitCount};
 ghost use Rattle.sheet.specs.Layout.{bufferLength};
 
@@ -19,6 +20,7 @@ pub struct MantissaBits {
     pub counts: [u32; 6],
 }
 
+// A refusal, with counts 0.
 fn no_bits(number: u32) -> MantissaBits
     ensures { λ r. ⌜ r ≡ noBits number ⌝ }
 {
@@ -43,6 +45,7 @@ fn check_block(bap: &[u8], channels: usize, ends: [usize; 6], block: usize) -> b
     all
 }
 
+// The same of all six blocks.
 fn check_blocks(bap: &[u8], channels: usize, ends: [usize; 6]) -> bool
     requires { ⌜ Ends channels ends ⌝ }
     requires { ⌜ length (now bap) ≡ bufferLength channels ⌝ }
@@ -55,7 +58,7 @@ fn check_blocks(bap: &[u8], channels: usize, ends: [usize; 6]) -> bool
     all
 }
 
-// Groups run on from channel to channel.
+// The mantissa bits of a block: groups run on from channel to channel.
 fn count_block(bap: &[u8], channels: usize, ends: [usize; 6], block: usize) -> u32
     requires { ⌜ Ends channels ends ⌝ }
     requires { ⌜ (block < 6) × (length (now bap) ≡ bufferLength channels) ⌝ }
@@ -74,6 +77,7 @@ fn count_block(bap: &[u8], channels: usize, ends: [usize; 6], block: usize) -> u
     total
 }
 
+// Groups never cross blocks.
 fn count_blocks(bap: &[u8], channels: usize, ends: [usize; 6]) -> [u32; 6]
     requires { ⌜ Ends channels ends ⌝ }
     requires { ⌜ length (now bap) ≡ bufferLength channels ⌝ }
@@ -87,6 +91,7 @@ fn count_blocks(bap: &[u8], channels: usize, ends: [usize; 6]) -> [u32; 6]
     counts
 }
 
+// The refusals of the buffer, 10 and 5, or the counts.
 fn bits_of_blocks(bap: &[u8], channels: usize, ends: [usize; 6]) -> MantissaBits
     requires { ⌜ Ends channels ends ⌝ }
     ensures { λ r. ⌜ r ≡ blocksAnswer channels ends (now (bap .entry)) ⌝ }

@@ -3,11 +3,13 @@ ghost use mathlib.Core.Path.{_≡_};
 ghost use Prim.Native.Nat.{_^_, _≤_, _<_};
 ghost use lib.ListN.{length};
 ghost use Rattle.mantissas.specs.Calls.{oneLength};
-ghost use Rattle.mantissas.specs.Ranges.{size, levels, width};
+ghost use Rattle.mantissas.specs.Ranges.{size, levels, width, groupSizes};
 ghost use Rattle.mantissas.specs.Stream.{coded, bapsFit};
 
+// A/52 7.3.5: the codes that share a field.
 const GROUP_SIZES: [u8; 16] = [1, 3, 3, 1, 2, 1, 1, 1, 1, 1, 1, 1, 1, 1, 1, 1];
 
+// Table 7.18, and the one code 0 of bap 0.
 const LEVELS: [u32; 16] = [
     1,
     3,
@@ -37,6 +39,13 @@ pub fn size(b: u8) -> u8
     ensures { λ r. ⌜ (1 ≤ r) × (r ≤ 3) ⌝ }
 {
     GROUP_SIZES[b as usize]
+}
+
+// The whole list, for a caller that reads many entries: it is then laid out once.
+pub fn group_sizes() -> [u8; 16]
+    ensures { λ r. ⌜ r ≡ groupSizes ⌝ }
+{
+    GROUP_SIZES
 }
 
 // How many values a code has.
@@ -76,6 +85,7 @@ pub fn values(b: u8, n: u8) -> u32
     m * m * m
 }
 
+// Whether two slices have one length, at most 1,536.
 pub fn one_length(m: usize, n: usize) -> bool
     ensures { λ r. ⌜ r ≡ oneLength m n ⌝ }
 {
@@ -85,18 +95,17 @@ pub fn one_length(m: usize, n: usize) -> bool
     m <= MOST_ENTRIES
 }
 
-// Whether every bap is at most 15.
+// Whether every bap is at most 15. None ends the loop, so that many can be tested at once.
 pub fn check_baps(bap: &[u8]) -> bool
     ensures { λ r. ⌜ r ≡ bapsFit (now (bap .entry)) ⌝ }
 {
+    let mut all = true;
     let mut i = 0;
     while i < bap.len() {
-        if bap[i] >= 16 {
-            return false;
-        }
+        all = all & (bap[i] < 16);
         i += 1;
     }
-    true
+    all
 }
 
 // Whether every bap is at most 15 and every code one of its bap's.

@@ -1,12 +1,11 @@
 // The bits of a mantissa stream, counted from the baps alone.
-use crate::code::size;
-use crate::code::width;
+use crate::code::group_sizes;
 ghost use mathlib.Core.Path.{_≡_};
 ghost use Prim.Native.Nat.{_*_, _≤_};
 ghost use lib.ListN.{length};
 ghost use Rattle.mantissas.specs.Calls.{mostEntries};
 ghost use Rattle.mantissas.specs.Digits.{Below};
-ghost use Rattle.mantissas.specs.Inner.{CountsOn};
+ghost use Rattle.mantissas.specs.Inner.{CountsOn, Started};
 ghost use Rattle.mantissas.specs.Stream.{bitCount};
 
 // What counting a part gives: for each bap, how many of its bins to come have their code in a field that is counted; and the bits.
@@ -19,22 +18,31 @@ pub struct Tally {
 pub fn count_part(bap: &[u8], left: [u8; 16]) -> Tally
     requires { ⌜ Below 16 (now bap) ⌝ }
     requires { ⌜ length (now bap) ≤ mostEntries ⌝ }
+    requires { ⌜ Started left ⌝ }
     ensures { λ r. ⌜ CountsOn (now (bap .entry)) left r ⌝ }
+    ensures { λ r. ⌜ Started (r .left) ⌝ }
 {
+    let sizes = group_sizes();
+    let widths = tables::quantization_bits_table();
     let mut left = left;
     let mut bits: u32 = 0;
     let mut i = 0;
     while i < bap.len() {
-        let b = bap[i];
-        let k = b as usize;
-        let l = left[k];
-        if l == 0 {
-            bits += width(b);
-            left[k] = size(b) - 1;
+        let k = bap[i] as usize;
+        let n = sizes[k];
+        if n == 1 {
+            bits += widths[k] as u32;
             i += 1;
         } else {
-            left[k] = l - 1;
-            i += 1;
+            let l = left[k];
+            if l == 0 {
+                bits += widths[k] as u32;
+                left[k] = n - 1;
+                i += 1;
+            } else {
+                left[k] = l - 1;
+                i += 1;
+            }
         }
     }
     Tally { left, bits }

@@ -16,7 +16,7 @@ use bits::refusal::WRONG_LENGTH;
 use bits::refused;
 ghost use mathlib.Core.Path.{_≡_};
 ghost use Prim.Native.Nat.{_+_, _*_, _/_, _%_, _^_, _≤_, _<_};
-ghost use lib.ListN.{length, replicate};
+ghost use lib.ListN.{length};
 ghost use Rattle.bits.specs.Field.{bitsOf};
 ghost use Rattle.bits.specs.Read.{from};
 ghost use Rattle.bits.specs.Reading.{Came};
@@ -110,16 +110,6 @@ pub fn get_mantissas(input: &[u8], pos: usize, bap: &[u8], codes: &mut [u16]) ->
     }
 }
 
-fn clear(codes: &mut [u16])
-    ensures { λ _. ⌜ now (codes .exit) ≡ replicate (length (now (codes .entry))) 0 ⌝ }
-{
-    let mut i = 0;
-    while i < codes.len() {
-        codes[i] = 0;
-        i += 1;
-    }
-}
-
 // The codes of a stream that begins at the first bit of the input; answers how many bits were read. A fault leaves every code 0.
 pub fn read_mantissa_stream(input: &[u8], bap: &[u8], codes: &mut [u16]) -> Answer
     ensures { λ r. ⌜ r ≡ readAnswer (bitsOf (now (input .entry))) (now (bap .entry)) (length (now (codes .entry))) ⌝ }
@@ -133,7 +123,7 @@ pub fn read_mantissa_stream(input: &[u8], bap: &[u8], codes: &mut [u16]) -> Answ
     }
     let end = get_mantissas(input, 0, bap, codes);
     if end.fault != ACCEPTED {
-        clear(codes);
+        slices::fill_codes(codes, 0);
         return refused(end.fault);
     }
     accepted(end.pos as u32)

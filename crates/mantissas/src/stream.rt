@@ -1,9 +1,9 @@
 // The writer of a mantissa stream (000 `write_mantissa_stream`).
 use crate::code::check_codes;
+use crate::code::group_sizes;
 use crate::code::levels;
 use crate::code::one_length;
 use crate::code::size;
-use crate::code::width;
 use crate::count::count_mantissas;
 use bits::Answer;
 use bits::Writer;
@@ -14,11 +14,12 @@ use bits::refusal::WRONG_LENGTH;
 use bits::refused;
 ghost use mathlib.Core.Path.{_≡_};
 ghost use Prim.Native.Nat.{_<_};
-ghost use lib.ListN.{length};
+ghost use lib.ListN.{length, getD};
 ghost use Rattle.bits.specs.Answer.{outputOf};
 ghost use Rattle.bits.specs.Write.{Ready, Put};
 ghost use Rattle.mantissas.specs.Calls.{writeAnswer};
 ghost use Rattle.mantissas.specs.Inner.{groupAt};
+ghost use Rattle.mantissas.specs.Ranges.{size};
 ghost use Rattle.mantissas.specs.Stream.{Coded, stream};
 
 // Document 01, "Mantissas": missing members are 0.
@@ -51,12 +52,26 @@ fn group_at(bap: &[u8], codes: &[u16], i: usize) -> u32
     v
 }
 
+// The same, n codes sharing the field; a code that has a field of its own is its value.
+fn value_at(bap: &[u8], codes: &[u16], i: usize, n: u8) -> u32
+    requires { ⌜ Coded (now bap) (now codes) ⌝ }
+    requires { ⌜ (i < length (now bap)) × (n ≡ size (getD (now bap) i 0)) ⌝ }
+    ensures { λ r. ⌜ r ≡ groupAt i (now (bap .entry)) (now (codes .entry)) ⌝ }
+{
+    if n == 1 {
+        return codes[i] as u32;
+    }
+    group_at(bap, codes, i)
+}
+
 // Appends the stream of the codes. `left` has, for each bap, how many of its bins to come have their code in a field that is written.
 pub fn put_mantissas(out: &mut [u8], w: Writer, bap: &[u8], codes: &[u16]) -> Writer
     requires { ⌜ Coded (now bap) (now codes) ⌝ }
     requires { ⌜ Ready w (length (now out)) (length (stream (now bap) (now codes))) ⌝ }
     ensures { λ r. ⌜ Put (now (out .entry)) w (stream (now (bap .entry)) (now (codes .entry))) (now (out .exit)) r ⌝ }
 {
+    let sizes = group_sizes();
+    let widths = tables::quantization_bits_table();
     let mut w = w;
     let mut left = [0u8; 16];
     let mut i = 0;
@@ -65,11 +80,15 @@ pub fn put_mantissas(out: &mut [u8], w: Writer, bap: &[u8], codes: &[u16]) -> Wr
         let k = b as usize;
         let l = left[k];
         if l == 0 {
-            let v = group_at(bap, codes, i);
-            let n = width(b);
-            w = bits::put(out, w, v, n);
-            left[k] = size(b) - 1;
-            i += 1;
+            if b == 0 {
+                i += 1;
+            } else {
+                let n = sizes[k];
+                let v = value_at(bap, codes, i, n);
+                w = bits::put(out, w, v, widths[k] as u32);
+                left[k] = n - 1;
+                i += 1;
+            }
         } else {
             left[k] = l - 1;
             i += 1;

@@ -1,5 +1,5 @@
--- The mask as the code has it, over the natural numbers: an excitation that is held to 0, and a delta that is 512 up.
--- specs/HeldLaws.antt joins these forms with those of A/52.
+-- The mask as the code has it, not as A/52 7.2.2.5 and 7.2.2.6 write it: natural numbers, from an excitation that is held to 0, with a delta
+-- that is 512 up, and the segments met in the order of the bands. specs/HeldLaws.antt shows that the forms are A/52's.
 use Prim.Native.Nat.{ℕ, zero, suc, _+_, _-_, _*_, _/_, max, _≤_, _<_}
 use mathlib.Core.Bool.{cond}
 use mathlib.Core.List.{List}
@@ -8,10 +8,11 @@ use lib.Dec.{ltb}
 use lib.ListN.{getD}
 use Rattle.masking.specs.declared.delta.Place.{Place}
 
+-- the masking curve of a band; where bndpsd is not below dbknee, their difference is 0
 unfoldable pub heldCurve : ℕ → ℕ → ℕ → ℕ → ℕ
 heldCurve excite bndpsd dbknee threshold = max (excite + (dbknee - bndpsd) / 4) threshold
 
--- a code's delta, 512 up
+-- a code's delta, 512 up: the least, of ba 0, is -512
 unfoldable pub heldDelta : ℕ → ℕ
 heldDelta ba = cond (ltb ba 4) (128 * ba) (128 * ba + 128)
 
@@ -23,6 +24,7 @@ heldFrom offst len ba band (suc n) i at =
     (cond (ltb band (at + getD offst i 0 + getD len i 0)) (heldDelta (getD ba i 0))
     (heldFrom offst len ba band n (suc i) (at + getD offst i 0 + getD len i 0)))
 
+-- what all nseg segments add to the mask of the band, 512 up
 unfoldable pub heldDeltas : List ℕ → List ℕ → List ℕ → ℕ → ℕ → ℕ
 heldDeltas offst len ba nseg band = heldFrom offst len ba band nseg 0 0
 

@@ -7,10 +7,10 @@ use Rattle.tables.specs.Entry.{entry, row}
 use Rattle.tables.specs.Masking.{hth}
 use Rattle.excitation.specs.Signed.{maxZ}
 
--- where bndpsd < dbknee, the excitation and (dbknee - bndpsd) >> 2
+-- where bndpsd[band] < dbknee: excite[band] += (dbknee - bndpsd[band]) >> 2
 unfoldable pub raised : ℤ → ℕ → ℕ → ℤ
 raised excite bndpsd dbknee = cond (ltb bndpsd dbknee) (excite +ℤ pos ((dbknee - bndpsd) / 4)) excite
 
--- max(excite, hth[fscod][band])
+-- mask[band] = max (excite[band], hth[fscod][band])
 unfoldable pub maskingCurve : ℤ → ℕ → ℕ → ℕ → ℕ → ℤ
 maskingCurve excite bndpsd dbknee fscod band = maxZ (raised excite bndpsd dbknee) (pos (entry (row hth fscod) band))

@@ -1,8 +1,9 @@
 // The delta segments (A/52 7.2.2.6), met in the order of the bands.
 ghost use mathlib.Core.Path.{_≡_};
 ghost use Prim.Native.Nat.{_+_, _*_, _<_, _≤_};
-ghost use lib.ListN.{length};
-ghost use Rattle.masking.specs.Held.{addedAt, firstPlace, following, heldDelta, Stands};
+ghost use lib.ListN.{length, replicate};
+ghost use Rattle.excitation.specs.Front.{front};
+ghost use Rattle.masking.specs.Held.{addedAt, firstPlace, following, heldDelta, heldDeltas, Stands};
 
 // The bands of the segment that covers a band or comes next, what it adds (512 up), and the number of the one after it.
 pub struct Place {
@@ -19,7 +20,7 @@ const BANDS: usize = 50;
 const NOTHING: u32 = 512;
 
 // What a code adds, 512 up.
-pub fn delta_of(ba: u8) -> u32
+fn delta_of(ba: u8) -> u32
     ensures { λ r. ⌜ (r ≡ heldDelta ba) × (r ≤ 32768) ⌝ }
 {
     let b = ba as u32;
@@ -33,7 +34,7 @@ fn wide(x: u8) -> usize
 }
 
 // The place before the first segment.
-pub fn first_place() -> Place
+fn first_place() -> Place
     ensures { λ r. ⌜ r ≡ firstPlace ⌝ }
 {
     Place {
@@ -71,7 +72,7 @@ fn following(place: Place, offst: &[u8; 8], len: &[u8; 8], ba: &[u8; 8], nseg: u
 }
 
 // The place at a band, from the place at the band before it.
-pub fn at_band(
+fn at_band(
     place: Place,
     offst: &[u8; 8],
     len: &[u8; 8],
@@ -93,12 +94,37 @@ pub fn at_band(
 }
 
 // What is added to a band before the place's end, 512 up.
-pub fn added_at(place: Place, band: usize) -> u32
+fn added_at(place: Place, band: usize) -> u32
     ensures { λ r. ⌜ r ≡ addedAt place band ⌝ }
 {
     if band < place.start {
         NOTHING
     } else {
         place.delta
+    }
+}
+
+// The deltas of all bands, 512 up, from an array in which nothing is added.
+pub fn band_deltas(
+    offst: &[u8; 8],
+    len: &[u8; 8],
+    ba: &[u8; 8],
+    nseg: usize,
+    bands: usize,
+    added: &mut [u16],
+)
+    requires { ⌜ (nseg ≤ 8) × (bands ≤ 50) × (now added ≡ replicate 50 512) ⌝ }
+    requires { ⌜ (length (now offst) ≡ 8) × (length (now len) ≡ 8) × (length (now ba) ≡ 8) ⌝ }
+    ensures { λ _. ⌜ now (added .exit) ≡ front (heldDeltas (now (offst .entry)) (now (len .entry)) (now (ba .entry)) nseg) bands (now (added .entry)) ⌝ }
+{
+    if nseg == 0 {
+        return;
+    }
+    let mut place = first_place();
+    let mut band = 0;
+    while band < bands {
+        place = at_band(place, offst, len, ba, nseg, band);
+        added[band] = added_at(place, band) as u16;
+        band += 1;
     }
 }

@@ -2,8 +2,5 @@
 pub mod delta;
 pub mod threshold;
 
-pub use delta::Place;
-pub use delta::added_at;
-pub use delta::at_band;
-pub use delta::first_place;
+pub use delta::band_deltas;
 pub use threshold::masking_curve;

@@ -12,9 +12,9 @@ use borrow.Author.Tests.{ltb-true, le-ltb}
 use lib.Ieee.Positive.{num, den, den-pos}
 use lib.Ieee.Fits.{down-pos}
 use lib.Ieee.Exact.{HasValue}
-use Rattle.quantiser.specs.Values.{scale-exact, pow-float, whole-part, in-u64}
-use Rattle.quantiser.specs.Scale.{zero32}
-use Rattle.quantiser.specs.Asymmetric.{halfAway, within, signedCode}
+use Rattle.quantiser.specs.FloatLaws.{scale-exact, pow-float, whole-part, in-u64}
+use Rattle.quantiser.specs.Scale.{zero32, within}
+use Rattle.quantiser.specs.Asymmetric.{halfAway, signedCode}
 
 -- ---- a half up, by two whole parts
 pub away-is : (a c : ℕ) → 0 < c → (2 * a / c + 1) / 2 ≡ halfAway a c
@@ -30,6 +30,7 @@ sign-ok true m e k h =
     let y : m * up e ≡ 0 = omega arith in
     rw (y, zero-mul) tt
 
+-- n / d at most 1, times 2 ^ k: below 2 ^ 64, and within the format's range
 wide : (n d k : ℕ) → k ≤ 24 → 0 < d → n ≤ d → n * 2 ^ k < 2 ^ 64 * d
 wide n d k h D l =
     let a : n * 2 ^ k ≤ d * 2 ^ 24 = mul-le-mul l (pow-mono h) in
@@ -46,6 +47,7 @@ module _ (s : Bool) (m : ℕ) (e : ℤ) (k : ℕ) (K : k ≤ 24) (f : T (fits bi
   value : HasValue (mul binary32 (fin s m e) (ofInt binary32 (pos (2 ^ k)))) s (m * up e * 2 ^ k) (down e)
   value = rw (pow-float k K) (scale-exact s m e k f (huge (m * up e) (down e) k K (down-pos e) below-one))
 
+-- the product's whole part: the cast loses nothing, and what it gives
 pub trunc-in : (x : Float) (k : ℕ) → k ≤ 24 → T (fits binary32 x) → T (within x) → lt x zero32 ≡ false
     → T (lt (fin true 1 (pos 0)) (mul binary32 x (ofInt binary32 (pos (2 ^ k))))) × T (lt (mul binary32 x (ofInt binary32 (pos (2 ^ k)))) (fin false 1 (pos 64)))
 trunc-in nan k K f w z = absurd (unfold within in w)
@@ -96,26 +98,29 @@ back-one w h = omega arith
 twice : (n w : ℕ) → 1 ≤ w → n * 2 ^ w ≡ 2 * (n * 2 ^ (w - 1))
 twice n w h = ap (λ (k : ℕ). n * 2 ^ k) (back-one w h) ∙ simp (pow-suc, mul-comm, mul-left-comm)
 
+-- the code's way to round: the whole part t of twice the value, and one, halved
 pub half-is : (x : Float) (w t : ℕ) → 1 ≤ w → t ≡ num x * 2 ^ w / den x → (t + 1) / 2 ≡ halfAway (num x * 2 ^ (w - 1)) (den x)
 half-is x w t h e = ap (λ (n : ℕ). (n + 1) / 2) (e ∙ ap (λ (n : ℕ). n / den x) (twice (num x) w h)) ∙ away-is (num x * 2 ^ (w - 1)) (den x) (den-pos x)
 
-pub small : (x : Float) → T (within x) → num x ≤ den x
+-- |x| is at most 1
+pub at-most-one : (x : Float) → T (within x) → num x ≤ den x
 unfolding within
-small nan h = absurd h
-small (inf s) h = absurd h
-small (fin s m e) h = leb→le (m * up e) (down e) h
+at-most-one nan h = absurd h
+at-most-one (inf s) h = absurd h
+at-most-one (fin s m e) h = leb→le (m * up e) (down e) h
 
+-- so the whole part of x * 2 ^ w is at most 2 ^ 16, and x * 2 ^ v rounded at most 2 ^ v
 pub trunc-le : (x : Float) (w t : ℕ) → T (within x) → w ≤ 16 → t ≡ num x * 2 ^ w / den x → t ≤ 65536
 trunc-le x w t h W e =
     le-trans (le-of-eq e)
-    (le-of-suc-le-suc (div-lt-iff-lt-mul (den-pos x) .1 (lt-of-le-of-lt (mul-le-mul (small x h) (pow-mono W)) (past (den x) (den-pos x)))))
+    (le-of-suc-le-suc (div-lt-iff-lt-mul (den-pos x) .1 (lt-of-le-of-lt (mul-le-mul (at-most-one x h) (pow-mono W)) (past (den x) (den-pos x)))))
   where
     past : (d : ℕ) → 0 < d → d * 65536 < 65537 * d
     past d D = omega arith
 
 pub away-le : (x : Float) (v : ℕ) → T (within x) → halfAway (num x * 2 ^ v) (den x) ≤ 2 ^ v
 away-le x v h =
-    le-of-suc-le-suc (div-lt-iff-lt-mul (mul-pos (lit< tt) (den-pos x)) .1 (go (num x * 2 ^ v) (den x) (2 ^ v) (den-pos x) (mul-le-mul-right (2 ^ v) (small x h))))
+    le-of-suc-le-suc (div-lt-iff-lt-mul (mul-pos (lit< tt) (den-pos x)) .1 (go (num x * 2 ^ v) (den x) (2 ^ v) (den-pos x) (mul-le-mul-right (2 ^ v) (at-most-one x h))))
   where
     go : (a d p : ℕ) → 0 < d → a ≤ d * p → 2 * a + d < suc p * (2 * d)
     go a d p D l = let e : suc p * (2 * d) ≡ 2 * (d * p) + 2 * d = simp (suc-mul, mul-comm, mul-left-comm) in omega arith

@@ -1,4 +1,4 @@
--- Document 01's starred cases of this step, by computation: bap 6 at exponent 0, and bap 0.
+-- Cases by computation: document 01's starred ones of this step, bap 6 at exponent 0, and the levels of bap 5.
 use mathlib.Core.Path.{_≡_, refl}
 use mathlib.Core.Bool.{true, false}
 use mathlib.Core.List.{[], _∷_, map}

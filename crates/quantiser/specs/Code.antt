@@ -1,5 +1,5 @@
 -- `quantise_mantissa` (A/52 7.3; document 01, "Mantissas"): the code of a coefficient at an exponent and a bap, and the refusals.
-use mathlib.Core.Bool.{cond}
+use mathlib.Core.Bool.{not, cond}
 use Prim.Native.Nat.{ℕ}
 use lib.Dec.{eqb, ltb}
 use lib.Ieee.{Float}
@@ -13,7 +13,7 @@ use Rattle.quantiser.specs.Scale.{scaled}
 use Rattle.quantiser.specs.Symmetric.{nearestOf}
 use Rattle.quantiser.specs.Asymmetric.{signedCode}
 
--- bap 0 has code 0; bap 1 to 5 the nearest of its levels; bap 6 to 15 a fraction of its width
+-- document 01: bap 0 has code 0 (A/52 gives it no bits); bap 1 to 5 the nearest of its levels; bap 6 to 15 a fraction of its width
 unfoldable pub codeOf : Float → ℕ → ℕ → ℕ
 unfolding scaled nearestOf signedCode
 codeOf coeff exponent bap =
@@ -21,11 +21,10 @@ codeOf coeff exponent bap =
     (cond (ltb bap 6) (nearestOf (scaled coeff exponent) (levels (levelCount bap)))
     (signedCode (entry quantizationBits bap) (scaled coeff exponent)))
 
--- what `quantise_mantissa` answers
+-- what `quantise_mantissa` answers, the refusals in the order of document 01, "When a call is turned back": 3, 4, 5
 unfoldable pub quantised : Float → ℕ → ℕ → Answer
 quantised coeff exponent bap =
-    cond (finite coeff)
+    cond (not (finite coeff)) (turnedBack refusal.notFinite)
     (cond (ltb 24 exponent) (turnedBack refusal.badExponent)
     (cond (ltb 15 bap) (turnedBack refusal.badCode)
     (gives (codeOf coeff exponent bap))))
-    (turnedBack refusal.notFinite)

@@ -1,17 +1,17 @@
--- Laws of codes: the code is always in range for its bap, and a width is 5 to 16 bits.
+-- Laws of codes: the code is always in range for its bap; of bap 1 to 5 it is the nearest level's; a width is 5 to 16 bits.
 use mathlib.Core.Path.{_≡_, refl, ap}
-use mathlib.Core.Bool.{Bool, true, false, cond}
+use mathlib.Core.Bool.{Bool, true, false, not, _&&_, cond}
 use mathlib.Core.List.{List, [], _∷_}
 use Prim.Native.Nat.{ℕ, zero, suc, _+_, _-_, _^_, _≤_, _<_}
-use native.Mathlib.Nat.{mod-lt}
+use native.Mathlib.Nat.{mod-lt, not-suc-le-zero, le-of-suc-le-suc}
 use native.Mathlib.Omega.{arith}
 use native.Mathlib.Decide.{decLe}
 use borrow.Author.Tests.{eq-eqb, ne-eqb, lt-ltb, le-ltb, ltb-false}
 use lib.Dec.{T, eqb, leb, ltb, eqb→eq, leb→le}
-use lib.Ieee.{Float, inf, lt}
+use lib.Ieee.{Float, nan, inf, fin, lt, round}
 use lib.Ieee.Fits.{and-l, and-r}
 use lib.Ieee.Scale.{finite}
-use lib.ListN.{length}
+use lib.ListN.{length, getD}
 use lib.Pow.{pow-pos, pow-mono}
 use Rattle.bits.specs.Answer.{gives, turnedBack}
 use Rattle.bits.specs.Refusal as refusal
@@ -19,11 +19,12 @@ use Rattle.mantissas.specs.Ranges.{levels as codeCount, row}
 use Rattle.tables.specs.Computed.{allBelow, at-index}
 use Rattle.tables.specs.Entry.{entry}
 use Rattle.tables.specs.Quantizer.{levels, levelsFrom, levelCount, levelCounts, quantizationBits}
-use Rattle.quantiser.specs.Scale.{zero32, scaled}
+use Rattle.quantiser.specs.Scale.{zero32, scaled, within}
+use Rattle.quantiser.specs.ScaleLaws.{scaled-within}
 use Rattle.quantiser.specs.Symmetric.{nearestFrom, nearestOf, distance}
+use Rattle.quantiser.specs.SymmetricLaws.{Nearest, nearest-is}
 use Rattle.quantiser.specs.Asymmetric.{signedCode}
 use Rattle.quantiser.specs.Code.{codeOf, quantised}
-use mathlib.Core.Bool.{_&&_}
 
 -- ---- a row of Table 7.18
 
@@ -86,11 +87,15 @@ unfolding levelsFrom
 length-levels-from n zero j = refl
 length-levels-from n (suc k) j = ap suc (length-levels-from n k (suc j))
 
+length-levels : (n : ℕ) → length (levels n) ≡ n
+unfolding levels
+length-levels n = length-levels-from n n 0
+
 nearest-lt : (m : Float) (n : ℕ) → 1 ≤ n → nearestOf m (levels n) < n
-unfolding nearestOf levels
+unfolding nearestOf
 nearest-lt m n h =
-    let l = length-levels-from n n 0 in
-    omega (arith, nearest-from-lt m (levelsFrom n n 0) 0 0 (inf false) (omega arith))
+    let l = length-levels n in
+    omega (arith, nearest-from-lt m (levels n) 0 0 (inf false) (omega arith))
 
 signed-lt : (w : ℕ) (m : Float) → 1 ≤ w → signedCode w m < 2 ^ w
 unfolding signedCode
@@ -112,6 +117,38 @@ code-in-range x k b h = by-bap (decLe b 0) (decLe b 5)
     by-bap (no z) (no l) =
         let r = fraction b (omega arith) h in
         rw (ne-eqb b 0 (λ e. omega arith), le-ltb b 6 (omega arith)) (omega (arith, signed-lt (entry quantizationBits b) (scaled x k) (omega arith), r .codes))
+
+-- ---- the code of bap 1 to 5 is the nearest level's, the lowest index on a tie
+
+allFinite : List Float → Bool
+allFinite [] = true
+allFinite (v ∷ vs) = finite v && allFinite vs
+
+all-finite : (table : List Float) → T (allFinite table) → (k : ℕ) → k < length table → T (finite (getD table k nan))
+unfolding allFinite
+all-finite [] t k h = absurd (not-suc-le-zero h)
+all-finite (v ∷ vs) t zero h = and-l (finite v) (allFinite vs) t
+all-finite (v ∷ vs) t (suc k) h = all-finite vs (and-r (finite v) (allFinite vs) t) k (le-of-suc-le-suc h)
+
+finite-levels : T (allBelow 5 (λ (b : ℕ). allFinite (levels (levelCount (1 + b)))))
+unfolding allFinite levels levelCount levelCounts round entry
+finite-levels = tt
+
+within-finite : (x : Float) → T (within x) → T (finite x)
+unfolding within
+within-finite nan h = h
+within-finite (inf s) h = h
+within-finite (fin s m e) h = tt
+
+pub code-nearest : (x : Float) (k b : ℕ) → T (finite x) → k ≤ 24 → 1 ≤ b → b ≤ 5 → Nearest (scaled x k) (levels (levelCount b)) (codeOf x k b)
+unfolding codeOf
+code-nearest x k b f K h l =
+    let e : 1 + (b - 1) ≡ b = omega arith in
+    let t : T (allFinite (levels (levelCount b))) = rw e at (at-index 5 (λ (i : ℕ). allFinite (levels (levelCount (1 + i)))) finite-levels (b - 1) (omega arith)) in
+    let r = level-row b h (omega arith) in
+    rw (ne-eqb b 0 (λ z. omega arith), lt-ltb b 6 (omega arith))
+    (nearest-is (scaled x k) (levels (levelCount b)) (within-finite (scaled x k) (scaled-within x k f K)) (all-finite (levels (levelCount b)) t)
+    (omega (arith, length-levels (levelCount b), r .0)))
 
 -- ---- the answer, by what was found of the input
 
@@ -138,7 +175,7 @@ unfolding quantised
 quantised-most x k b = by-tests (finite x) (ltb 24 k) (ltb 15 b) refl
   where
     by-tests : (f g h : Bool) → ltb 15 b ≡ h
-        → cond f (cond g (turnedBack refusal.badExponent) (cond h (turnedBack refusal.badCode) (gives (codeOf x k b)))) (turnedBack refusal.notFinite) .value < 65536
+        → cond (not f) (turnedBack refusal.notFinite) (cond g (turnedBack refusal.badExponent) (cond h (turnedBack refusal.badCode) (gives (codeOf x k b)))) .value < 65536
     by-tests true true h e = omega arith
     by-tests true false true e = omega arith
     by-tests true false false e = omega (arith, code-in-range x k b (ltb-false 15 b e), row b (omega (arith, ltb-false 15 b e)) .levels-most)

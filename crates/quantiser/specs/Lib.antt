@@ -1,9 +1,11 @@
 pub mod Scale
-pub mod Symmetric
-pub mod Asymmetric
-pub mod Code
-pub mod Values
 pub mod ScaleLaws
+pub mod Asymmetric
 pub mod AsymmetricLaws
+pub mod Symmetric
+pub mod SymmetricLaws
+pub mod Code
 pub mod CodeLaws
+pub mod FloatLaws
+pub mod OrderLaws
 pub mod Cases

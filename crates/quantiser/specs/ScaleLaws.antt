@@ -3,42 +3,41 @@ use mathlib.Core.Path.{_≡_, refl, sym, ap, _∙_}
 use mathlib.Core.Bool.{Bool, true, false, not, cond}
 use Prim.Native.Nat.{ℕ, zero, suc, _+_, _-_, _*_, _/_, _%_, _^_, _≤_, _<_, compare, Ordering, Ordering·lt, Ordering·eq, Ordering·gt}
 use native.Mathlib.Decide.{decLe}
-use native.Mathlib.Nat.{le-trans, le-of-eq, lt-of-le-of-lt, lt-of-lt-of-le, lt-of-not-le, not-le-of-lt, mul-comm, mul-right-comm, one-mul, mul-lt-mul-of-pos-right, mul-le-mul-right, le-of-mul-le-mul-right, lt-of-mul-lt-mul-right, le-div-iff-mul-le, div-div-eq-div-mul, mod-eq-of-lt}
+use native.Mathlib.Nat.{le-trans, le-of-eq, lt-of-le-of-lt, lt-of-lt-of-le, lt-of-not-le, mul-comm, mul-right-comm, one-mul, mul-lt-mul-of-pos-right, mul-le-mul-right, le-of-mul-le-mul-right, lt-of-mul-lt-mul-right, le-div-iff-mul-le, div-div-eq-div-mul, mod-eq-of-lt}
 use native.Mathlib.Omega.{arith}
 use lib.IntN.{ℤ, pos}
 use lib.Dec.{T, ltb, le→leb, nltb→le, lit<}
 use lib.Pow.{pow-add, pow-pos, pow-mono}
 use lib.Ieee.{Float, nan, inf, fin, binary32, up, down, unlike, round, mul, ofInt, fits, lt, ofBits, isNan, units, odd, size, nearest}
-use lib.Ieee.Digits.{size-lt, size-reaches}
+use lib.Ieee.Digits.{size-reaches}
 use borrow.Author.Tests.{lt-ltb, le-ltb}
 use lib.Ieee.Scale.{finite}
-use lib.Ieee.Fits.{down-pos, round-is, cond-fits, mul-fits}
-use lib.Ieee.Bits.{ofBits-fits}
+use lib.Ieee.Fits.{down-pos, round-is}
 use lib.Ieee.Exact.{HasValue}
-use Rattle.quantiser.specs.Values.{mul-is, scale-exact, pow-float}
-use Rattle.quantiser.specs.Scale.{one32, minusOne32, held, scaled}
-use Rattle.quantiser.specs.Asymmetric.{within}
+use Rattle.shaping.specs.ExtractLaws.{digits-from}
+use Rattle.quantiser.specs.FloatLaws.{mul-is, scale-exact, pow-float}
+use Rattle.quantiser.specs.Scale.{one32, minusOne32, held, scaled, within}
 
 -- ---- a finite value times a power of two, held to -1..1, is within -1..1
-pub units-num : (s : Bool) (q k : ℕ) → T (not (isNan (units binary32 s q k)))
+pub units-no-nan : (s : Bool) (q k : ℕ) → T (not (isNan (units binary32 s q k)))
 unfolding units
-units-num s q k = go (ltb (q * 2 ^ k) (2 ^ 277)) q
+units-no-nan s q k = go (ltb (q * 2 ^ k) (2 ^ 277)) q
   where
     go : (b : Bool) (q : ℕ) → T (not (isNan (cond b (odd 25 s q k 149) (inf s))))
     go true zero = unfold odd isNan in tt
     go true (suc q) = unfold odd isNan in tt
     go false q = unfold isNan in tt
 
-pub round-num : (s : Bool) (a c : ℕ) → T (not (isNan (round binary32 s a c)))
-round-num s a c = rw round-is (units-num s _ _)
+pub round-no-nan : (s : Bool) (a c : ℕ) → T (not (isNan (round binary32 s a c)))
+round-no-nan s a c = rw round-is (units-no-nan s _ _)
 
-pub mul-num : (x y : Float) → T (finite x) → T (finite y) → T (not (isNan (mul binary32 x y)))
+pub mul-no-nan : (x y : Float) → T (finite x) → T (finite y) → T (not (isNan (mul binary32 x y)))
 unfolding mul
-mul-num (fin s m e) (fin t n d) p q = round-num (unlike s t) (m * up e * (n * up d)) (down e * down d)
-mul-num (fin s m e) (inf t) p q = absurd q
-mul-num (fin s m e) nan p q = absurd q
-mul-num (inf s) y p q = absurd p
-mul-num nan y p q = absurd p
+mul-no-nan (fin s m e) (fin t n d) p q = round-no-nan (unlike s t) (m * up e * (n * up d)) (down e * down d)
+mul-no-nan (fin s m e) (inf t) p q = absurd q
+mul-no-nan (fin s m e) nan p q = absurd q
+mul-no-nan (inf s) y p q = absurd p
+mul-no-nan nan y p q = absurd p
 
 pub held-within : (z : Float) → T (not (isNan z)) → T (within (held z))
 unfolding held lt ofBits within isNan
@@ -56,19 +55,9 @@ held-within (fin false m e) h = go (ltb (1 * down e) (m * up e * 1)) (nltb→le 
     go true k = tt
     go false k = let l = k tt in le→leb (m * up e) (down e) (omega arith)
 
-pub held-fits : (z : Float) → T (fits binary32 z) → T (fits binary32 (held z))
-unfolding held
-held-fits z h =
-    cond-fits binary32 (lt z minusOne32) minusOne32 (cond (lt one32 z) one32 z) (ofBits-fits binary32 0xbf80_0000)
-    (cond-fits binary32 (lt one32 z) one32 z (ofBits-fits binary32 0x3f80_0000) h)
-
 pub scaled-within : (x : Float) (k : ℕ) → T (finite x) → k ≤ 24 → T (within (scaled x k))
 unfolding scaled
-scaled-within x k h K = held-within (mul binary32 x (ofInt binary32 (pos (2 ^ k)))) (mul-num x (ofInt binary32 (pos (2 ^ k))) h (rw (pow-float k K) tt))
-
-pub scaled-fits : (x : Float) (k : ℕ) → T (fits binary32 (scaled x k))
-unfolding scaled
-scaled-fits x k = held-fits (mul binary32 x (ofInt binary32 (pos (2 ^ k)))) (mul-fits binary32 x (ofInt binary32 (pos (2 ^ k))))
+scaled-within x k h K = held-within (mul binary32 x (ofInt binary32 (pos (2 ^ k)))) (mul-no-nan x (ofInt binary32 (pos (2 ^ k))) h (rw (pow-float k K) tt))
 
 -- ---- a u32's 1 << k
 pub power-is : (k : ℕ) → k ≤ 24 → 1 * 2 ^ k % 4294967296 ≡ 2 ^ k
@@ -103,9 +92,6 @@ scaled-exact s m e k f K h =
 
 -- ---- and -1 or 1 where it is more
 
-size-above : (n j : ℕ) → 2 ^ j ≤ n → j < size n
-size-above n j h = lt-of-not-le (λ g. not-le-of-lt (lt-of-lt-of-le (size-lt n) (pow-mono g)) h)
-
 nearest-above : (q : ℕ) (o : Ordering) → q ≤ nearest q o
 nearest-above q Ordering·lt = omega arith
 nearest-above q Ordering·eq = omega arith
@@ -117,7 +103,7 @@ unfolding round units
 round-overflow s a c C h =
     let n = a * 2 ^ 149 in
     let k = size (n / c) - 24 in
-    let big : 277 < size (n / c) = size-above (n / c) 277 h in
+    let big : 277 < size (n / c) = digits-from (n / c) 277 h in
     let reach : 2 ^ 23 * 2 ^ k ≤ n / c = rw (pow-add 2 23 k) at (size-reaches (n / c) (23 + k) (omega arith)) in
     let low : 2 ^ 23 ≤ n / (c * 2 ^ k) = rw (div-div-eq-div-mul n c (2 ^ k)) at (le-div-iff-mul-le (pow-pos k) .1 reach) in
     let kept : 2 ^ 23 ≤ nearest (n / (c * 2 ^ k)) (compare (n % (c * 2 ^ k) * 2) (c * 2 ^ k)) = le-trans low (nearest-above (n / (c * 2 ^ k)) (compare (n % (c * 2 ^ k) * 2) (c * 2 ^ k))) in

@@ -1,11 +1,10 @@
--- bap 1 to 5 (A/52 7.3.2; document 01, "Mantissas"): the nearest f32 level by rounded f32 distance, the lower index on a tie.
--- One rule over the list of levels, whatever their number.
-use mathlib.Core.Bool.{cond}
+-- bap 1 to 5 (A/52 7.3.3, Tables 7.19 to 7.23; document 01, "Mantissas"): "nearest f32 level by rounded f32 distance, lower index on a tie".
+-- One rule over the list of levels, whatever their number; that it gives the nearest and the lowest is shown in SymmetricLaws.antt.
+use mathlib.Core.Bool.{false, cond}
 use mathlib.Core.List.{List, [], _∷_}
 use Prim.Native.Nat.{ℕ, suc}
 use lib.Ieee.{Float, inf, binary32, sub, neg, lt}
 use Rattle.quantiser.specs.Scale.{zero32}
-use mathlib.Core.Bool.{false}
 
 -- |m - level|, the difference rounded to an f32
 unfoldable pub distance : Float → Float → Float

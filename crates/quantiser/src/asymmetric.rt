@@ -1,12 +1,12 @@
-// bap 6 to 15: two's complement fractions (A/52 7.3.3), rounded half away from zero (`round` and `clamp` of the Rust).
+// bap 6 to 15: two's complement fractions (A/52 7.3.2), rounded half away from zero (`round` and `clamp` of the Rust).
 ghost use mathlib.Core.Path.{_≡_};
 ghost use mathlib.Core.Bool.{false};
 ghost use Prim.Native.Nat.{_-_, _*_, _^_, _≤_};
 ghost use lib.Dec.{T};
 ghost use lib.Ieee.{lt};
 ghost use lib.Ieee.Positive.{num, den};
-ghost use Rattle.quantiser.specs.Scale.{zero32};
-ghost use Rattle.quantiser.specs.Asymmetric.{halfAway, signedCode, within};
+ghost use Rattle.quantiser.specs.Scale.{zero32, within};
+ghost use Rattle.quantiser.specs.Asymmetric.{halfAway, signedCode};
 use crate::scale::power;
 use crate::scale::power_f32;
 
@@ -21,6 +21,7 @@ fn half_away(a: f32, width: u32) -> u32
     ((twice + 1) / 2) as u32
 }
 
+// The code of bap 6 to 15.
 pub fn signed_code(m: f32, width: u32) -> u32
     requires { ⌜ T (within m) ⌝ }
     requires { ⌜ (1 ≤ width) × (width ≤ 16) ⌝ }

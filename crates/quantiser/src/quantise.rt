@@ -31,6 +31,7 @@ pub fn mantissa_code(coeff: f32, exponent: u32, bap: u8) -> u32
     signed_code(m, tables::quantization_bits(bap) as u32)
 }
 
+// The code of any coefficient, exponent and bap, or the refusal: 3, 4, 5 in this order.
 pub fn quantise_mantissa(coeff: f32, exponent: u32, bap: u32) -> Answer
     ensures { λ r. ⌜ r ≡ quantised coeff exponent bap ⌝ }
 {

@@ -23,6 +23,7 @@ pub fn power_f32(k: u32) -> f32
     power(k) as f32
 }
 
+// Held to -1..1.
 fn hold(m: f32) -> f32
     ensures { λ r. ⌜ r ≡ held m ⌝ }
 {
@@ -35,6 +36,7 @@ fn hold(m: f32) -> f32
     m
 }
 
+// The mantissa of a coefficient at an exponent.
 pub fn scale(coeff: f32, exponent: u32) -> f32
     requires { ⌜ exponent ≤ 24 ⌝ }
     ensures { λ r. ⌜ r ≡ scaled coeff exponent ⌝ }

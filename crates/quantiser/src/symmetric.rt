@@ -1,4 +1,4 @@
-// bap 1 to 5: the nearest of the symmetric levels (A/52 7.3.2; `nearest_symmetric` of the Rust).
+// bap 1 to 5: the nearest of the symmetric levels (A/52 7.3.3; `nearest_symmetric` of the Rust).
 ghost use mathlib.Core.Path.{_≡_};
 ghost use Prim.Native.Nat.{_≤_};
 ghost use lib.ListN.{length};
@@ -10,6 +10,7 @@ use tables::quantizer::MANT_LEVEL_7;
 use tables::quantizer::MANT_LEVEL_11;
 use tables::quantizer::MANT_LEVEL_15;
 
+// |m - level|, by a rounded f32 difference.
 fn distance_to(m: f32, level: f32) -> f32
     ensures { λ r. ⌜ r ≡ distance m level ⌝ }
 {
@@ -36,6 +37,7 @@ fn nearest_symmetric(m: f32, table: &[f32]) -> u32
     best
 }
 
+// The code of bap 1 to 5.
 pub fn level_code(m: f32, bap: u8) -> u32
     requires { ⌜ (1 ≤ bap) × (bap ≤ 5) ⌝ }
     ensures { λ r. ⌜ r ≡ nearestOf m (levels (levelCount bap)) ⌝ }

@@ -11,7 +11,7 @@ use borrow.Author.Tests.{le-leb, lt-leb, lt-ltb, le-ltb}
 use Rattle.shaping.specs.Passes.{merged}
 use Rattle.bits.specs.Parts.{piece}
 use Rattle.bits.specs.PartsLaws.{part-is}
-use Rattle.shaping.specs.Strategies.{lost, picked, endsHeld, blockOf, strategyRow}
+use Rattle.shaping.specs.Strategies.{lost, picked, endsHeld, blockExponents, strategyRow}
 
 -- what is left to lose, after v, of whose span j bins are still to come
 abbrev pub left : ℕ → ℕ → ℕ → List ℕ → ℕ
@@ -51,8 +51,8 @@ picked-front xs n v e = let z : n - 0 ≡ n = omega arith in rw z at e
 -- a channel's block, below its end
 pub picked-block : (exps ends part : List ℕ) (block channel at after end v : ℕ) → part ≡ take (after - at) (drop at exps)
     → at ≡ 256 * (length ends * block + channel) → after ≡ at + 256 → end ≡ getD ends channel 0 → v ≡ picked (take (end - 0) part)
-    → v ≡ picked (blockOf exps ends block channel)
-unfolding blockOf
+    → v ≡ picked (blockExponents exps ends block channel)
+unfolding blockExponents
 picked-block exps ends part block channel at after end v p a f n e =
     let w : part ≡ piece 256 (length ends * block + channel) exps =
     p ∙ part-is 256 (length ends * block + channel) at (after - at) exps a (omega arith) in
@@ -62,7 +62,7 @@ pub part-length : (exps : List ℕ) (at after : ℕ) → after ≡ at + 256 → 
 part-length exps at after e h = rw (length-take, length-drop) (omega arith)
 
 -- the rows of a table
-pub row-there : (exps ends : List ℕ) (channel a b : ℕ) → channel < length ends → a ≡ picked (blockOf exps ends 0 channel) → b ≡ picked (blockOf exps ends 3 channel)
+pub row-there : (exps ends : List ℕ) (channel a b : ℕ) → channel < length ends → a ≡ picked (blockExponents exps ends 0 channel) → b ≡ picked (blockExponents exps ends 3 channel)
     → a ∷ 0 ∷ 0 ∷ b ∷ 0 ∷ 0 ∷ [] ≡ strategyRow exps ends channel
 unfolding strategyRow
 row-there exps ends channel a b h p q = rw (lt-ltb channel (length ends) h, p, q)

@@ -1,3 +1,4 @@
+-- What the proofs of this crate's functions share, by the loops that they are about.
 pub mod Sweep
 pub mod Backward
 pub mod Whole

@@ -1,12 +1,11 @@
 -- A pass from the front in place, one store a turn: take i e ++ f (drop i e) stays what is wanted, f being the pass over what is left.
 use mathlib.Core.Path.{_≡_, refl, sym, ap, _∙_}
-use mathlib.Core.List.{List, [], _∷_, _++_, append-nil}
+use mathlib.Core.List.{List, [], _∷_, _++_}
 use Prim.Native.Nat.{ℕ, zero, suc, _+_, _-_, _≤_, _<_, min}
 use native.Mathlib.Omega.{arith}
 use native.Mathlib.Numerals.{add-one, sub-one}
-use lib.ListN.{length, take, drop, getD, set, replicate, drop-of-length-le}
-use lib.Seq.{drop-cons, drop-length}
-use borrow.Author.Fill.{fill-more}
+use lib.ListN.{length, take, drop, getD, set, drop-of-length-le}
+use lib.Seq.{drop-cons}
 use Rattle.shaping.specs.Passes.{held, forward, least, merged}
 
 store : (f : List ℕ → List ℕ) (e l : List ℕ) (i v : ℕ) → i < length e → l ≡ v ∷ f (drop (suc i) e)
@@ -72,11 +71,3 @@ pub least-none : (e : List ℕ) (g j m k : ℕ) → least j m (drop k e) ≡ g �
 unfolding least
 least-none e g zero m k q h = q
 least-none e g (suc j) m k q h = absurd (omega arith)
-
--- ---- one value in every entry
-
-pub fill-turn : (s d : List ℕ) (k v : ℕ) → s ≡ replicate k v ++ drop k d → k < length d → set s k v ≡ replicate (k + 1) v ++ drop (k + 1) d
-fill-turn s d k v q h = rw q (fill-more k v d h)
-
-pub fill-end : (s d : List ℕ) (k v : ℕ) → s ≡ replicate k v ++ drop k d → k ≡ length d → s ≡ replicate (length d) v
-fill-end s d k v q e = q ∙ rw (e, drop-length, append-nil)

@@ -1,14 +1,10 @@
 -- The passes one after the other are the whole of each call.
 use mathlib.Core.Path.{_≡_, refl, _∙_}
-use mathlib.Core.Bool.{Bool, true, false, _||_}
 use mathlib.Core.List.{List, [], _∷_, _++_}
-use mathlib.Core.Logic.{_⊎_, inl, inr, ⊎-elim}
 use Prim.Native.Nat.{ℕ, zero, suc, _≤_, _<_, min}
 use native.Mathlib.Omega.{arith}
-use borrow.Author.Tests.{eqb-true}
-use lib.Dec.{eqb}
 use lib.ListN.{length, take, drop, getD, set}
-use Rattle.shaping.specs.Passes.{roof, backward, forward, first, led, d15, merged, lowerSpans, spanned, isSpan}
+use Rattle.shaping.specs.Passes.{roof, backward, forward, first, led, d15, merged, lowerSpans, spanned}
 
 pub first-alone : (xs : List ℕ) (x : ℕ) → length xs < 2 → x ≡ min (getD xs 0 0) 15 → x ≡ first (getD xs 0 0) (drop 1 xs)
 first-alone [] x h e = e
@@ -55,15 +51,3 @@ spanned-all [] m e z h a b c l k = absurd (omega arith)
 spanned-all (x ∷ []) m e z h a b c l k = absurd (omega arith)
 spanned-all (x ∷ y ∷ r) m e z zero a b c l k = absurd (omega arith)
 spanned-all (x ∷ y ∷ r) m e z (suc h) a b c l k = c ∙ rw (b, a)
-
--- ---- the calls
-
-or-true : (a b : Bool) → (a || b) ≡ true → (a ≡ true) ⊎ (b ≡ true)
-or-true true b e = inl refl
-or-true false b e = inr e
-
-pub span-is : (span : ℕ) → isSpan span ≡ true → (1 ≤ span) × (span ≤ 4)
-span-is span e =
-    ⊎-elim (λ a. let z = eqb-true span 1 a in (omega arith, omega arith))
-    (λ a. ⊎-elim (λ b. let z = eqb-true span 2 b in (omega arith, omega arith)) (λ b. let z = eqb-true span 4 b in (omega arith, omega arith))
-    (or-true (eqb span 2) (eqb span 4) a)) (or-true (eqb span 1) (eqb span 2 || eqb span 4) e)

@@ -1,7 +1,7 @@
 -- The exponent is A/52's (7.1): a coefficient is mantissa × 2^-exponent with the mantissa's size from 1/2 up to 1, wherever 0..24 allow it.
 -- |x| is num x / den x, in whole numbers.
 use mathlib.Core.Path.{_≡_, sym, ap, _∙_}
-use mathlib.Core.Bool.{Bool, true, false, cond}
+use mathlib.Core.Bool.{Bool, true, false, not, cond}
 use Prim.Native.Nat.{ℕ, suc, _+_, _-_, _*_, _^_, _≤_, _<_, min}
 use native.Mathlib.Nat.{le-trans, le-of-eq, lt-of-lt-of-le, mul-one, mul-le-mul-right, le-of-mul-le-mul-right, le-of-suc-le-suc, lt-of-not-le, not-le-of-lt}
 use native.Mathlib.Omega.{arith}
@@ -19,7 +19,7 @@ use Rattle.shaping.specs.FloatLaws.{smallest, reaches-one, one-reached, 
 
 -- ---- digits and powers
 
-digits-from : (n a : ℕ) → 2 ^ a ≤ n → a < size n
+pub digits-from : (n a : ℕ) → 2 ^ a ≤ n → a < size n
 digits-from n a h = lt-of-not-le (λ (g : size n ≤ a). not-le-of-lt (lt-of-lt-of-le (size-lt n) (pow-mono g)) h)
 
 less-scaled : (n a k : ℕ) → 2 ^ (a + k) ≤ n * 2 ^ k → 2 ^ a ≤ n
@@ -92,6 +92,6 @@ pub extracted-most : (x : Float) → extracted x .value ≤ 24
 unfolding extracted
 extracted-most x = by-finite (finite x)
   where
-    by-finite : (f : Bool) → cond f (gives (exponentOf x)) (turnedBack refusal.notFinite) .value ≤ 24
+    by-finite : (f : Bool) → cond (not f) (turnedBack refusal.notFinite) (gives (exponentOf x)) .value ≤ 24
     by-finite true = exponent-at-most x
     by-finite false = omega arith

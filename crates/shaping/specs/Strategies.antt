@@ -1,5 +1,5 @@
 -- Which strategy a block's exponents are given, and the strategies of a frame (document 01, `pick_strategy_for_block`, `select_exp_strategies_per_end`).
-use mathlib.Core.Bool.{Bool, true, cond, _&&_}
+use mathlib.Core.Bool.{Bool, true, not, cond, _&&_}
 use mathlib.Core.List.{List, [], _∷_}
 use Prim.Native.Nat.{ℕ, _+_, _-_, _*_, _/_}
 use lib.Dec.{eqb, leb, ltb}
@@ -10,7 +10,7 @@ use Rattle.bits.specs.Refusal as refusal
 use Rattle.bits.specs.declared.answer.Answer.{Answer}
 use Rattle.shaping.specs.Passes.{merged}
 
--- ---- one block
+-- ---- one block: "any bytes; integer division; at most 50 gives 3, else at most 75 gives 2, else 1; end up to 1 gives 1"
 
 -- how far the bins of xs go down where they become those of ys
 unfoldable pub lost : List ℕ → List ℕ → ℕ
@@ -26,38 +26,42 @@ cost h exp = lost (drop 1 exp) (merged h 0 0 (drop 1 exp))
 abbrev pub perBin : ℕ → List ℕ → ℕ
 perBin h exp = cost h exp * 100 / (length exp - 1)
 
--- of the exponents below end: up to one bin gives D15; D45 at most 50 gives D45, else D25 at most 75 gives D25, else D15
+-- of the exponents below end: up to one bin gives 1, D15; a cost of D45 of at most 50 gives 3, D45; else one of D25 of at most 75 gives 2,
+-- D25; else 1
 unfoldable pub picked : List ℕ → ℕ
 picked exp = cond (leb (length exp) 1) 1 (cond (leb (perBin 3 exp) 50) 3 (cond (leb (perBin 1 exp) 75) 2 1))
 
--- the answer of `pick_strategy_for_block`
+-- the answer of `pick_strategy_for_block`: 2 for another end than 0..256, 10 for a slice of more than 256 entries or one that ends before end
 unfoldable pub pickAnswer : List ℕ → ℕ → Answer
 pickAnswer exp end =
-    cond (leb end 256)
-    (cond (leb (length exp) 256 && leb end (length exp)) (gives (picked (take end exp))) (turnedBack refusal.wrongLength))
-    (turnedBack refusal.outOfRange)
+    cond (not (leb end 256)) (turnedBack refusal.outOfRange)
+    (cond (not (leb (length exp) 256 && leb end (length exp))) (turnedBack refusal.wrongLength)
+    (gives (picked (take end exp))))
 
--- ---- the frame: an end for each channel, and the whole exponent buffer
+-- ---- the frame: "blocks 0 and 3; the other four 0; alone it takes 1..6 channels, an end 0..256 for each and the whole exponent buffer;
+-- another channel count is 2"
 
+-- each end is at most 256
 unfoldable pub endsHeld : List ℕ → Bool
 endsHeld [] = true
 endsHeld (end ∷ ends) = leb end 256 && endsHeld ends
 
+-- 2 for another channel count or end, 10 for another length of the buffer
 abbrev pub selectRefusal : List ℕ → List ℕ → ℕ
 selectRefusal exps ends =
-    cond (leb 1 (length ends) && (leb (length ends) 6 && endsHeld ends))
-    (cond (eqb (length exps) (6 * length ends * 256)) refusal.accepted refusal.wrongLength)
-    refusal.outOfRange
+    cond (not (leb 1 (length ends) && (leb (length ends) 6 && endsHeld ends))) refusal.outOfRange
+    (cond (not (eqb (length exps) (6 * length ends * 256))) refusal.wrongLength
+    refusal.accepted)
 
--- the exponents of a channel in a block, below its end: its part starts at 256 × (channels × block + channel)
-unfoldable pub blockOf : List ℕ → List ℕ → ℕ → ℕ → List ℕ
-blockOf exps ends block channel = take (getD ends channel 0) (piece 256 (length ends * block + channel) exps)
+-- the exponents of a channel in a block, below its end: "A channel's part starts at 256 × (C × block + channel)"
+unfoldable pub blockExponents : List ℕ → List ℕ → ℕ → ℕ → List ℕ
+blockExponents exps ends block channel = take (getD ends channel 0) (piece 256 (length ends * block + channel) exps)
 
 -- a channel's strategies by block: picked in blocks 0 and 3, reuse in the other four
 unfoldable pub strategyRow : List ℕ → List ℕ → ℕ → List ℕ
 strategyRow exps ends channel =
     cond (ltb channel (length ends))
-    (picked (blockOf exps ends 0 channel) ∷ 0 ∷ 0 ∷ picked (blockOf exps ends 3 channel) ∷ 0 ∷ 0 ∷ [])
+    (picked (blockExponents exps ends 0 channel) ∷ 0 ∷ 0 ∷ picked (blockExponents exps ends 3 channel) ∷ 0 ∷ 0 ∷ [])
     (replicate 6 0)
 
 -- the strategies, channel by block; 0 for a channel that is not there, and all 0 where the call is refused

@@ -1,6 +1,6 @@
 -- What an accepted `select_exp_strategies_per_end` may rely on: up to six channels, each end at most 256, and the whole exponent buffer.
 use mathlib.Core.Path.{_≡_, refl}
-use mathlib.Core.Bool.{Bool, true, false, cond, _&&_}
+use mathlib.Core.Bool.{Bool, true, false, not, cond, _&&_}
 use mathlib.Core.List.{List, [], _∷_}
 use Prim.Native.Nat.{ℕ, zero, suc, _+_, _*_, _≤_, _<_}
 use native.Mathlib.Nat.{mul-le-mul-left, mul-add, mul-one}
@@ -10,6 +10,7 @@ use lib.ListN.{length, getD, take}
 use borrow.Author.Tests.{leb-true, eqb-true}
 use Rattle.bits.specs.Answer.{gives, turnedBack}
 use Rattle.bits.specs.Refusal as refusal
+use Rattle.bits.specs.Tests.{both}
 use Rattle.shaping.specs.Strategies.{perBin, picked, pickAnswer, endsHeld, selectRefusal}
 
 pub record Selectable (exps ends : List ℕ) : Type 0 where
@@ -17,21 +18,17 @@ pub record Selectable (exps ends : List ℕ) : Type 0 where
   pub held : (i : ℕ) → getD ends i 0 ≤ 256
   pub whole : length exps ≡ 6 * length ends * 256
 
-and-true : (a b : Bool) → (a && b) ≡ true → (a ≡ true) × (b ≡ true)
-and-true true b e = (refl, e)
-and-true false b e = absurd (let z : _≡_ {A = ℕ} 0 1 = cc in omega arith)
-
 held-at : (ends : List ℕ) → endsHeld ends ≡ true → (i : ℕ) → getD ends i 0 ≤ 256
 unfolding endsHeld
 held-at [] e i = omega arith
-held-at (x ∷ r) e zero = leb-true x 256 (and-true (leb x 256) (endsHeld r) e .0)
-held-at (x ∷ r) e (suc i) = held-at r (and-true (leb x 256) (endsHeld r) e .1) i
+held-at (x ∷ r) e zero = leb-true x 256 (both (leb x 256) (endsHeld r) e .0)
+held-at (x ∷ r) e (suc i) = held-at r (both (leb x 256) (endsHeld r) e .1) i
 
 pub few-ends : (n : ℕ) (b : Bool) → (leb 1 n && (leb n 6 && b)) ≡ true → n ≤ 6
-few-ends n b e = leb-true n 6 (and-true (leb n 6) b (and-true (leb 1 n) (leb n 6 && b) e .1) .0)
+few-ends n b e = leb-true n 6 (both (leb n 6) b (both (leb 1 n) (leb n 6 && b) e .1) .0)
 
 -- a call that is not refused has both
-both-hold : (a b : Bool) → cond a (cond b refusal.accepted refusal.wrongLength) refusal.outOfRange ≡ refusal.accepted → (a ≡ true) × (b ≡ true)
+both-hold : (a b : Bool) → cond (not a) refusal.outOfRange (cond (not b) refusal.wrongLength refusal.accepted) ≡ refusal.accepted → (a ≡ true) × (b ≡ true)
 both-hold true true e = (refl, refl)
 both-hold true false e = absurd (omega arith)
 both-hold false b e = absurd (omega arith)
@@ -39,10 +36,10 @@ both-hold false b e = absurd (omega arith)
 pub selectable : (exps ends : List ℕ) → selectRefusal exps ends ≡ refusal.accepted → Selectable exps ends
 selectable exps ends e =
     let r = both-hold (leb 1 (length ends) && (leb (length ends) 6 && endsHeld ends)) (eqb (length exps) (6 * length ends * 256)) e in
-    let a = and-true (leb 1 (length ends)) (leb (length ends) 6 && endsHeld ends) (r .0) .1 in
+    let a = both (leb 1 (length ends)) (leb (length ends) 6 && endsHeld ends) (r .0) .1 in
     record {
       few = few-ends (length ends) (endsHeld ends) (r .0);
-      held = held-at ends (and-true (leb (length ends) 6) (endsHeld ends) a .1);
+      held = held-at ends (both (leb (length ends) 6) (endsHeld ends) a .1);
       whole = eqb-true (length exps) (6 * length ends * 256) (r .1);
     }
 
@@ -62,7 +59,7 @@ unfolding pickAnswer picked
 picked-most exp end = by-tests (leb end 256) (leb (length exp) 256 && leb end (length exp))
   where
     by-tests : (a b : Bool)
-        → cond a (cond b (gives (picked (take end exp))) (turnedBack refusal.wrongLength)) (turnedBack refusal.outOfRange) .value ≤ 3
+        → cond (not a) (turnedBack refusal.outOfRange) (cond (not b) (turnedBack refusal.wrongLength) (gives (picked (take end exp)))) .value ≤ 3
     by-tests true true =
         picked-low (leb (length (take end exp)) 1) (leb (perBin 3 (take end exp)) 50) (leb (perBin 1 (take end exp)) 75)
     by-tests true false = omega arith

@@ -2,7 +2,7 @@
 ghost use mathlib.Core.Path.{_≡_};
 ghost use Prim.Native.Nat.{_<_};
 ghost use lib.ListN.{length};
-ghost use Rattle.shaping.specs.Strategies.{picked, endsHeld, selectRefusal, blockOf, strategyRow, selected};
+ghost use Rattle.shaping.specs.Strategies.{picked, endsHeld, selectRefusal, blockExponents, strategyRow, selected};
 ghost use Rattle.shaping.specs.StrategyLaws.{Selectable};
 use crate::strategies::strategy_of;
 
@@ -43,7 +43,7 @@ pub fn select_refusal(exps: &[u8], ends: &[u16]) -> u32
 fn block_strategy(exps: &[u8], ends: &[u16], block: usize, channel: usize) -> u8
     requires { ⌜ Selectable (now exps) (now ends) ⌝ }
     requires { ⌜ (block < 6) × (channel < length (now ends)) ⌝ }
-    ensures { λ r. ⌜ r ≡ picked (blockOf (now (exps .entry)) (now (ends .entry)) block channel) ⌝ }
+    ensures { λ r. ⌜ r ≡ picked (blockExponents (now (exps .entry)) (now (ends .entry)) block channel) ⌝ }
 {
     let at = 256 * (ends.len() * block + channel);
     let after = at + 256;

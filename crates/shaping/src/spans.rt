@@ -2,7 +2,7 @@
 ghost use mathlib.Core.Path.{_≡_};
 ghost use mathlib.Core.List.{_++_};
 ghost use Prim.Native.Nat.{_+_, _<_, _≤_};
-ghost use lib.ListN.{length, take, drop, getD, replicate};
+ghost use lib.ListN.{length, take, drop, getD};
 ghost use Rattle.shaping.specs.Passes.{least, merged, countDown, frontLowered, lowerSpans, isSpan, spanned, quantiseRefusal, quantised};
 use crate::passes::lead;
 use crate::passes::roof;
@@ -47,18 +47,6 @@ fn merge(exp: &mut [u8], h: usize)
     }
 }
 
-// Every entry becomes v.
-fn fill(s: &mut [u8], v: u8)
-    ensures { λ _. ⌜ now (s .exit) ≡ replicate (length (now (s .entry))) v ⌝ }
-{
-    let n = s.len();
-    let mut k = 0;
-    while k < n {
-        s[k] = v;
-        k += 1;
-    }
-}
-
 // The span at i, if it lacks no bin, as a whole under the bin that follows it.
 fn lower_span(exp: &mut [u8], i: usize, h: usize, c: usize)
     requires { ⌜ i < length (now exp) ⌝ }
@@ -77,7 +65,7 @@ fn lower_span(exp: &mut [u8], i: usize, h: usize, c: usize)
     if exp[i] <= w {
         return;
     }
-    fill(&mut exp[i..e], w);
+    slices::fill(&mut exp[i..e], w);
 }
 
 // One bin less to come, or the first of a span.

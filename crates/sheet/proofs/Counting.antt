@@ -8,7 +8,7 @@ use lib.ListN.{length, getD, take, drop, length-drop, drop-of-length-le}
 use lib.Seq.{drop-drop, take-all, drop-length}
 use lib.Dec.{eqb}
 use borrow.Author.Tests.{eq-eqb, ne-eqb}
-use Rattle.sheet.specs.Tests.{both}
+use Rattle.bits.specs.Tests.{both}
 use Rattle.sheet.specs.Grammar.{recordSize, countOff, recordsFrom, every, EndsAt}
 use Rattle.sheet.specs.Record.{channelOf, ofChannel}
 
@@ -70,8 +70,9 @@ module _ (c : ℕ) {l rs : List (List ℕ)} {r : List ℕ} (e : l ≡ r ∷ rs) 
       by-cases true = omega arith
       by-cases false = omega arith
 
-  pub found : channelOf r ≡ c → getD (ofChannel c l) 0 [] ≡ r
-  found h = rw (e, eq-eqb (channelOf r) c h)
+  -- the first record of the channel is this one, or it is among those after it
+  pub found-here : channelOf r ≡ c → getD (ofChannel c l) 0 [] ≡ r
+  found-here h = rw (e, eq-eqb (channelOf r) c h)
 
-  pub passed : (channelOf r ≡ c → ⊥) → ofChannel c l ≡ ofChannel c rs
-  passed h = rw (e, ne-eqb (channelOf r) c h)
+  pub found-later : (channelOf r ≡ c → ⊥) → ofChannel c l ≡ ofChannel c rs
+  found-later h = rw (e, ne-eqb (channelOf r) c h)

@@ -1,4 +1,4 @@
--- The values of a track sheet that hold for all channels, document 01, "The track sheet": bytes 3 to 11.
+-- The common part of a track sheet, the values that hold for all channels: document 01, "The track sheet", bytes 3 to 11.
 use Prim.Native.Nat.{ℕ, _+_}
 use mathlib.Core.List.{List}
 use mathlib.Core.Bool.{Bool, _&&_}
@@ -6,6 +6,7 @@ use lib.ListN.{getD}
 use lib.Dec.{leb}
 use Rattle.sheet.specs.declared.common_part.Common.{Common}
 
+-- in the order of the paper; nfchans, as in A/52, is its "number of full-bandwidth channels n"
 abbrev pub commonOf : List ℕ → Common
 commonOf s =
     record {
@@ -20,10 +21,11 @@ commonOf s =
       csnroffst = getD s 11 0;
     }
 
--- C, the number of channels
+-- "C is the number of channels": the full-bandwidth ones, and the LFE where there is one
 abbrev pub channelsOf : Common → ℕ
 channelsOf c = c .nfchans + c .lfe
 
+-- "fscod 0..2, number of full-bandwidth channels n 1..5, lfe 0..1, sdcycod, fdcycod, sgaincod, dbpbcod (each 0..3), floorcod 0..7, csnroffst 0..63"
 abbrev pub commonInRange : Common → Bool
 commonInRange c =
     leb (c .fscod) 2

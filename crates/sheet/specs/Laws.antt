@@ -10,6 +10,7 @@ use lib.ListN.{length, getD}
 use lib.Dec.{leb, eqb}
 use borrow.Author.Tests.{ltb-true, leb-true, eqb-true}
 use Rattle.bits.specs.Refusal as refusal
+use Rattle.bits.specs.Tests.{both}
 use Rattle.sheet.specs.declared.record.ExponentSet.the-variants.{Reuse}
 use Rattle.sheet.specs.declared.record.BlockSet.{BlockSet}
 use Rattle.sheet.specs.Grammar.{headSize, recordSize, recordsOf, every, isWhole, versionOf, lengthOf, lengthMatches, structured}
@@ -19,8 +20,9 @@ use Rattle.sheet.specs.Ranges.{allBelow, recordInRange, once, recordsInR
 use Rattle.sheet.specs.Sheet.{checkOf}
 use Rattle.sheet.specs.Layout.{bufferLength, partStart}
 use Rattle.sheet.specs.Legal.{LegalEnd, LegalStrategies, LegalSheet}
-use Rattle.sheet.specs.Tests.{both, all-below, six-at, first-of, none-of, one-for-each}
-use Rattle.sheet.specs.InRange.{legal-common, record-tests, legal-end-of, legal-row, legal-record}
+use Rattle.sheet.specs.Tests.{all-below}
+use Rattle.sheet.specs.RecordLaws.{six-at, first-of, none-of, one-for-each}
+use Rattle.sheet.specs.RangesLaws.{legal-common, record-tests, legal-end-of, legal-row, legal-record}
 
 -- the part of a channel that is there lies within the buffer
 pub part-within : (channels block channel : ℕ) → block < 6 → channel < channels → partStart channels block channel + 256 ≤ bufferLength channels

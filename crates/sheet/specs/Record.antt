@@ -1,15 +1,17 @@
--- A channel's record, document 01, "The track sheet": where each value stands among its bytes, and the record by value.
--- Each block has either reuse or a new set with its span: 0 reuse, 1 D15 (span 1), 2 D25 (span 2), 3 D45 (span 4).
+-- A channel's record, document 01, "The track sheet": where each value stands among its bytes, the record by value,
+-- and the tables that the frame takes. A record as its bytes is r, a sheet is s.
 use Prim.Native.Nat.{ℕ, _+_, _*_}
 use mathlib.Core.List.{List, [], _∷_}
 use mathlib.Core.Bool.{cond}
 use lib.ListN.{getD}
 use lib.Dec.{eqb}
-use Rattle.sheet.specs.Grammar.{recordsOf}
+use Rattle.sheet.specs.Grammar.{nsegOf, recordsOf}
 use Rattle.sheet.specs.declared.record.ExponentSet.{ExponentSet}
 use Rattle.sheet.specs.declared.record.ExponentSet.the-variants.{Reuse, New}
 use Rattle.sheet.specs.declared.record.BlockSet.{BlockSet}
 use Rattle.sheet.specs.declared.record.ChannelRecord.{ChannelRecord}
+
+-- ---- the bytes of a record: channel, end, six strategies, fsnroffst, fgaincod, nseg, then nseg times offst, len, ba
 
 abbrev pub channelOf : List ℕ → ℕ
 channelOf r = getD r 0 0
@@ -26,10 +28,7 @@ fsnroffstOf r = getD r 8 0
 abbrev pub fgaincodOf : List ℕ → ℕ
 fgaincodOf r = getD r 9 0
 
-abbrev pub nsegOf : List ℕ → ℕ
-nsegOf r = getD r 10 0
-
--- offst, len and ba of the segments start at these bytes, three bytes apart
+-- nseg is byte 10 (specs/Grammar); offst, len and ba of the first segment are these, those of the next stand three bytes on
 abbrev pub offstAt : ℕ
 offstAt = 11
 
@@ -39,41 +38,50 @@ lenAt = 12
 abbrev pub baAt : ℕ
 baAt = 13
 
+-- one of these three values of segment i
 abbrev pub segmentValue : List ℕ → ℕ → ℕ → ℕ
 segmentValue r first i = getD r (first + 3 * i) 0
 
--- the set that a strategy's number names, and the number and the span of a set
+-- ---- "for every block either reuse or a new set with its span: 0 reuse, 1 D15 (span 1), 2 D25 (span 2), 3 D45 (span 4)"
+
+-- the set that a strategy's number names; another number does not pass the ranges
 abbrev pub setOf : ℕ → ExponentSet
 setOf x = cond (eqb x 0) Reuse (cond (eqb x 1) (New 1) (cond (eqb x 2) (New 2) (New 4)))
 
+-- the span of a set, 0 for reuse, which has none
 abbrev pub spanOf : ExponentSet → ℕ
 spanOf Reuse = 0
 spanOf (New span) = span
 
+-- the strategy's number of a set
 abbrev pub strategyNumber : ExponentSet → ℕ
 strategyNumber Reuse = 0
 strategyNumber (New span) = cond (eqb span 1) 1 (cond (eqb span 2) 2 3)
 
+-- ---- a record by value
+
+-- f 0, f 1, .. f 5, and f 0, f 1, .. f 7
 abbrev pub sixOf : {A : Type 0} → (ℕ → A) → List A
 sixOf f = f 0 ∷ f 1 ∷ f 2 ∷ f 3 ∷ f 4 ∷ f 5 ∷ []
 
 abbrev pub eightOf : {A : Type 0} → (ℕ → A) → List A
 eightOf f = f 0 ∷ f 1 ∷ f 2 ∷ f 3 ∷ f 4 ∷ f 5 ∷ f 6 ∷ f 7 ∷ []
 
-abbrev pub blockSet : ℕ → BlockSet
-blockSet x = record { set = setOf x }
-
--- the six strategies, as numbers and as sets; one kind of value of the eight segments
+-- the strategies of the six blocks, as numbers and as sets
 abbrev pub strategyRow : List ℕ → List ℕ
 strategyRow r = sixOf (strategyOf r)
+
+abbrev pub blockSet : ℕ → BlockSet
+blockSet x = record { set = setOf x }
 
 abbrev pub blocksOf : List ℕ → List BlockSet
 blocksOf r = sixOf (λ block. blockSet (strategyOf r block))
 
+-- one of offst, len and ba, of eight segments
 abbrev pub columnOf : List ℕ → ℕ → List ℕ
 columnOf r first = eightOf (segmentValue r first)
 
--- a record by value; a segment that is not there is all 0
+-- a segment that is not there is all 0
 abbrev pub channelRecord : List ℕ → ChannelRecord
 channelRecord r =
     record {
@@ -92,19 +100,22 @@ channelRecord r =
 abbrev pub blockOf : ChannelRecord → ℕ → ExponentSet
 blockOf r block = getD (r .blocks) block (record { set = Reuse }) .set
 
+-- ---- the record of a channel: "one record per channel, in any order"
+
 -- those of a list of records that are of channel c
 abbrev pub ofChannel : ℕ → List (List ℕ) → List (List ℕ)
 ofChannel c [] = []
 ofChannel c (r ∷ rs) = cond (eqb (channelOf r) c) (r ∷ ofChannel c rs) (ofChannel c rs)
 
--- the bytes of channel c's record, the first where there are several, none where there is none
+-- the bytes of channel c's record: the first where there are several, none where there is none
 abbrev pub recordBytes : List ℕ → ℕ → List ℕ
 recordBytes s c = getD (ofChannel c (recordsOf s)) 0 []
 
 abbrev pub recordOf : List ℕ → ℕ → ChannelRecord
 recordOf s c = channelRecord (recordBytes s c)
 
--- the strategies, channel by block, and the ends of six channels; 0 for a channel that is not there
+-- ---- "the strategies of six blocks by six channels are fixed tables": channel by block; 0 for a channel that is not there
+
 abbrev pub strategiesOf : List ℕ → List (List ℕ)
 strategiesOf s = sixOf (λ c. strategyRow (recordBytes s c))
 
@@ -112,5 +123,6 @@ strategiesOf s = sixOf (λ c. strategyRow (recordBytes s c))
 abbrev pub strategyIn : List (List ℕ) → ℕ → ℕ → ℕ
 strategyIn table c block = getD (getD table c []) block 0
 
+-- the ends of six channels
 abbrev pub endsOf : List ℕ → List ℕ
 endsOf s = sixOf (λ c. endOf (recordBytes s c))

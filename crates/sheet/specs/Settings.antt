@@ -1,8 +1,9 @@
--- What a sheet means, whatever the order of its records, document 01, "The track sheet": "one record per channel, in any order".
-use Prim.Native.Nat.{ℕ, zero, suc}
+-- What a sheet means, whatever the order of its records: document 01, "The track sheet", "one record per channel, in any order".
+use Prim.Native.Nat.{ℕ}
 use mathlib.Core.Path.{_≡_}
-use mathlib.Core.List.{List, [], _∷_, _++_, List·Permᴰ}
+use mathlib.Core.List.{List, List·Permᴰ}
 use lib.ListN.{take}
+use Rattle.bits.specs.Parts.{tab}
 use Rattle.sheet.specs.declared.common_part.Common.{Common}
 use Rattle.sheet.specs.declared.record.ChannelRecord.{ChannelRecord}
 use Rattle.sheet.specs.Grammar.{headSize, recordsOf}
@@ -14,13 +15,8 @@ pub record Settings : Type 0 where
   pub common : Common
   pub records : List ChannelRecord
 
--- f 0, f 1, .. f (n - 1)
-abbrev pub listBelow : ℕ → (ℕ → ChannelRecord) → List ChannelRecord
-listBelow zero f = []
-listBelow (suc n) f = listBelow n f ++ (f n ∷ [])
-
 abbrev pub settingsOf : List ℕ → Settings
-settingsOf s = record { common = commonOf s; records = listBelow (channelsOf (commonOf s)) (recordOf s) }
+settingsOf s = record { common = commonOf s; records = tab (channelsOf (commonOf s)) (recordOf s) }
 
 -- the two sheets differ in the order of their records alone: the records of one are a permutation of the other's
 -- (the library's: made of swaps of two that stand side by side)

@@ -1,4 +1,4 @@
--- The answer of the sheet check, document 01, "When a call is turned back": the structure is looked at before any range.
+-- The answer of the sheet check, document 01, "When a call is turned back": 1 for the structure, then 2 for a range, else accepted.
 use Prim.Native.Nat.{ℕ}
 use mathlib.Core.List.{List}
 use mathlib.Core.Bool.{not, cond}

@@ -12,13 +12,12 @@ pub fn judge(label: &[u8], sheet: &[u8]) {
 }
 
 // The bytes of `from` at the start of the buffer.
-fn copy(bytes: &mut [u8], from: &[u8])
+fn front(bytes: &mut [u8], from: &[u8])
     requires { ⌜ length (now from) ≤ length (now bytes) ⌝ }
     ensures { λ r. ⌜ length (now (bytes .exit)) ≡ length (now (bytes .entry)) ⌝ }
 {
-    for i in 0..from.len() {
-        bytes[i] = from[i];
-    }
+    let n = from.len();
+    slices::copy(from, &mut bytes[0..n]);
 }
 
 fn put(bytes: &mut [u8], at: usize, value: u8)
@@ -51,7 +50,7 @@ pub fn changed(
     if 80 < size {
         return;
     }
-    copy(&mut bytes, sheet);
+    front(&mut bytes, sheet);
     put(&mut bytes, at, value);
     put(&mut bytes, also, other);
     judge(label, &bytes[0..size]);
@@ -64,7 +63,7 @@ fn example(bytes: &mut [u8])
 {
     let sheet = b"\x00\x15\x01\x00\x01\x00\x00\x00\x00\x00\x00\x00\
         \x00\x25\x01\x00\x00\x00\x00\x00\x00\x00\x00";
-    copy(bytes, sheet);
+    front(bytes, sheet);
 }
 
 // The example with one byte changed.

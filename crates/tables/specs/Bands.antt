@@ -2,7 +2,7 @@
 use Prim.Native.Nat.{ℕ}
 use mathlib.Core.List.{List, [], _∷_}
 
--- Table 7.12, first column
+-- Table 7.12, first column: the first bin of a band
 unfoldable pub bndtab : List ℕ
 bndtab =
     0 ∷ 1 ∷ 2 ∷ 3 ∷ 4 ∷ 5 ∷ 6 ∷ 7 ∷ 8 ∷ 9 ∷
@@ -11,7 +11,7 @@ bndtab =
     34 ∷ 37 ∷ 40 ∷ 43 ∷ 46 ∷ 49 ∷ 55 ∷ 61 ∷ 67 ∷ 73 ∷
     79 ∷ 85 ∷ 97 ∷ 109 ∷ 121 ∷ 133 ∷ 157 ∷ 181 ∷ 205 ∷ 229 ∷ []
 
--- Table 7.12, second column
+-- Table 7.12, second column: the number of its bins
 unfoldable pub bndsz : List ℕ
 bndsz =
     1 ∷ 1 ∷ 1 ∷ 1 ∷ 1 ∷ 1 ∷ 1 ∷ 1 ∷ 1 ∷ 1 ∷
@@ -20,7 +20,7 @@ bndsz =
     3 ∷ 3 ∷ 3 ∷ 3 ∷ 3 ∷ 6 ∷ 6 ∷ 6 ∷ 6 ∷ 6 ∷
     6 ∷ 12 ∷ 12 ∷ 12 ∷ 12 ∷ 24 ∷ 24 ∷ 24 ∷ 24 ∷ 24 ∷ []
 
--- Table 7.13
+-- Table 7.13: the band of a bin; bins 253 to 255 have none and stand as 0
 unfoldable pub masktab : List ℕ
 masktab =
     0 ∷ 1 ∷ 2 ∷ 3 ∷ 4 ∷ 5 ∷ 6 ∷ 7 ∷ 8 ∷ 9 ∷

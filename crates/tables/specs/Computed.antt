@@ -9,7 +9,6 @@ use native.Mathlib.Nat.{add-zero, add-suc, le-refl, le-trans, le-of-suc-le-suc, 
 use native.Mathlib.Omega.{arith}
 use lib.Dec.{T, leb, leb→le}
 use lib.Ieee.Fits.{and-l, and-r}
-use lib.ListN.{length, List·getD-eq-default}
 use Rattle.tables.specs.Entry.{entry, row}
 
 -- the test holds at every index below n
@@ -45,10 +44,6 @@ unfolding row
 row-entry-most m [] t f i = entry-most m [] tt i
 row-entry-most m (r ∷ rs) t zero i = entry-most m r (and-l (allAtMost m r) (allRowsAtMost m rs) t) i
 row-entry-most m (r ∷ rs) t (suc f) i = row-entry-most m rs (and-r (allAtMost m r) (allRowsAtMost m rs) t) f i
-
-pub entry-past : (table : List ℕ) (i : ℕ) → length table ≤ i → entry table i ≡ 0
-unfolding entry
-entry-past table i h = List·getD-eq-default table 0 h
 
 -- a test of neighbours, up to n, says it of any two indices up to n
 abbrev pub neverRises : ℕ → (ℕ → ℕ) → Bool

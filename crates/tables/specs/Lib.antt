@@ -3,6 +3,7 @@ pub mod Parameters
 pub mod Bands
 pub mod Masking
 pub mod Quantizer
+pub mod EntryLaws
 pub mod Computed
 pub mod Rules
 pub mod Levels

@@ -1,8 +1,8 @@
--- A/52 7.2.3, Tables 7.14 and 7.15: what joining two powers adds, and the hearing threshold of each band.
+-- A/52 7.2.3, Tables 7.14 and 7.15: what logadd (7.2.2.3) adds to the larger of two powers, and the hearing threshold of a band (7.2.2.5).
 use Prim.Native.Nat.{ℕ}
 use mathlib.Core.List.{List, [], _∷_}
 
--- Table 7.14
+-- Table 7.14, by half the distance of the two
 unfoldable pub latab : List ℕ
 latab =
     0x40 ∷ 0x3f ∷ 0x3e ∷ 0x3d ∷ 0x3c ∷ 0x3b ∷ 0x3a ∷ 0x39 ∷ 0x38 ∷ 0x37 ∷
@@ -32,7 +32,7 @@ latab =
     0x00 ∷ 0x00 ∷ 0x00 ∷ 0x00 ∷ 0x00 ∷ 0x00 ∷ 0x00 ∷ 0x00 ∷ 0x00 ∷ 0x00 ∷
     0x00 ∷ 0x00 ∷ 0x00 ∷ 0x00 ∷ 0x00 ∷ 0x00 ∷ []
 
--- Table 7.15, a row for each fscod: 48, 44.1 and 32 kHz
+-- Table 7.15, by band; a row for each fscod: 48, 44.1 and 32 kHz
 unfoldable pub hth : List (List ℕ)
 hth =
     (0x04d0 ∷ 0x04d0 ∷ 0x0440 ∷ 0x0400 ∷ 0x03e0 ∷ 0x03c0 ∷ 0x03b0 ∷ 0x03b0 ∷ 0x03a0 ∷ 0x03a0 ∷

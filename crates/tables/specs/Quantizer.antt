@@ -6,7 +6,7 @@ use lib.Dec.{ltb}
 use lib.Ieee.{Float, binary32, round}
 use Rattle.tables.specs.Entry.{entry}
 
--- Table 7.16
+-- Table 7.16: bap, by the address of 7.2.2.7
 unfoldable pub baptab : List ℕ
 baptab =
     0 ∷ 1 ∷ 1 ∷ 1 ∷ 1 ∷ 1 ∷ 2 ∷ 2 ∷ 3 ∷ 3 ∷
@@ -17,7 +17,7 @@ baptab =
     14 ∷ 14 ∷ 14 ∷ 14 ∷ 14 ∷ 15 ∷ 15 ∷ 15 ∷ 15 ∷ 15 ∷
     15 ∷ 15 ∷ 15 ∷ 15 ∷ []
 
--- Table 7.18, the bits of a field: for bap 1, 2 and 4 it holds a group of 3, 3 and 2 mantissas
+-- Table 7.18, by bap, the bits of a field: for bap 1, 2 and 4 it holds a group of 3, 3 and 2 mantissas
 unfoldable pub quantizationBits : List ℕ
 quantizationBits =
     0 ∷ 5 ∷ 7 ∷ 3 ∷ 7 ∷ 4 ∷ 5 ∷ 6 ∷ 7 ∷ 8 ∷

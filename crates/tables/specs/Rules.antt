@@ -1,9 +1,10 @@
 -- What holds of the tables of A/52 7.2.3 and 7.3, each computed over the whole table by specs/Computed.antt.
--- First MASKTAB's rule (document 01, "Allocation": the one band of BNDTAB and BNDSZ that holds the bin), then order, then bounds.
+-- First MASKTAB's rule (document 01, "Allocation": the one band of BNDTAB and BNDSZ that holds the bin), then the bands and the order of
+-- LATAB and BAPTAB, then bounds.
 use mathlib.Core.Path.{_≡_, refl}
 use mathlib.Core.Bool.{Bool, _&&_}
 use mathlib.Core.List.{[], _∷_, map}
-use Prim.Native.Nat.{ℕ, suc, _+_, _-_, _^_, _≤_, _<_, zero-le}
+use Prim.Native.Nat.{ℕ, zero, suc, _+_, _-_, _^_, _≤_, _<_, zero-le}
 use native.Mathlib.Decide.{decLe}
 use native.Mathlib.Nat.{le-antisymm}
 use native.Mathlib.Numerals.{add-one}
@@ -11,14 +12,15 @@ use native.Mathlib.Omega.{arith}
 use lib.Dec.{T, leb, ltb, eqb, leb→le, ltb→lt, eqb→eq}
 use lib.Ieee.Fits.{and-l, and-r}
 use lib.IntN.{pos, negℤ}
-use lib.ListN.{drop}
+use lib.ListN.{length, drop}
 use lib.Seq.{getD-drop}
 use Rattle.tables.specs.Entry.{entry, row}
 use Rattle.tables.specs.Parameters.{slowdec, fastdec, slowgain, dbpbtab, floortab, fastgain, signed16}
 use Rattle.tables.specs.Bands.{bndtab, bndsz, masktab}
 use Rattle.tables.specs.Masking.{latab, hth}
 use Rattle.tables.specs.Quantizer.{baptab, quantizationBits, levelCounts, levelCount}
-use Rattle.tables.specs.Computed.{allBelow, at-index, entry-most, row-entry-most, entry-past, neverRises, neverFalls, never-rises, never-falls}
+use Rattle.tables.specs.EntryLaws.{entry-past}
+use Rattle.tables.specs.Computed.{allBelow, at-index, entry-most, row-entry-most, neverRises, neverFalls, never-rises, never-falls}
 
 -- the bin is one of the band's: BNDSZ of them from BNDTAB on
 pub record HoldsBin (band bin : ℕ) : Type 0 where
@@ -91,6 +93,42 @@ bndsz-least-all = tt
 
 pub bndsz-least : (band : ℕ) → band < 50 → 1 ≤ entry bndsz band
 bndsz-least band h = leb→le _ _ (at-index 50 (λ (k : ℕ). leb 1 (entry bndsz k)) bndsz-least-all band h)
+
+-- so BNDTAB never falls
+bndtab-steps : T (neverFalls 49 (entry bndtab))
+unfolding entry bndtab
+bndtab-steps = tt
+
+pub bndtab-never-falls : (i j : ℕ) → i ≤ j → j < 50 → entry bndtab i ≤ entry bndtab j
+bndtab-never-falls i j h l = never-falls 49 (entry bndtab) bndtab-steps i j h (omega arith)
+
+-- bands 0 to 27 have one bin each, that of their own number
+one-bin : T (allBelow 28 (λ (k : ℕ). eqb (entry bndtab k) k && eqb (entry bndsz k) 1))
+unfolding entry bndtab bndsz
+one-bin = tt
+
+module _ (band : ℕ) (h : band < 28) where
+  one : T (eqb (entry bndtab band) band && eqb (entry bndsz band) 1)
+  one = at-index 28 (λ (k : ℕ). eqb (entry bndtab k) k && eqb (entry bndsz k) 1) one-bin band h
+
+  pub bndtab-one : entry bndtab band ≡ band
+  bndtab-one = eqb→eq _ _ (and-l (eqb (entry bndtab band) band) (eqb (entry bndsz band) 1) one)
+
+  pub bndsz-one : entry bndsz band ≡ 1
+  bndsz-one = eqb→eq _ _ (and-r (eqb (entry bndtab band) band) (eqb (entry bndsz band) 1) one)
+
+-- and so these bins are bands of their own
+pub masktab-one : (bin : ℕ) → bin < 28 → entry masktab bin ≡ bin
+masktab-one bin h = masktab-only bin bin (record { low = omega (arith, bndtab-one bin h); high = omega (arith, bndtab-one bin h, bndsz-one bin h) })
+
+-- the first band of more than one bin starts at bin 28, and the last of all ends behind bin 252
+pub bndtab-joined : entry bndtab 28 ≡ 28
+unfolding entry bndtab
+bndtab-joined = refl
+
+pub bndtab-last : entry bndtab 49 + entry bndsz 49 ≡ 253
+unfolding entry bndtab bndsz
+bndtab-last = refl
 
 -- LATAB never rises, at any two indices
 latab-steps : T (neverRises 255 (entry latab))
@@ -175,6 +213,14 @@ hth-least fscod band hf hk =
 pub hth-most : (fscod band : ℕ) → entry (row hth fscod) band ≤ 2112
 unfolding hth
 hth-most = row-entry-most 2112 hth tt
+
+-- each of its rows has a threshold for each band
+pub length-hth : (fscod : ℕ) → fscod < 3 → length (row hth fscod) ≡ 50
+unfolding row hth
+length-hth zero h = refl
+length-hth (suc zero) h = refl
+length-hth (suc (suc zero)) h = refl
+length-hth (suc (suc (suc n))) h = absurd (omega arith)
 
 -- the numbers that the patterns of Table 7.10 stand for
 pub floortab-signed : map signed16 floortab ≡ pos 752 ∷ pos 688 ∷ pos 624 ∷ pos 560 ∷ pos 496 ∷ pos 368 ∷ pos 240 ∷ negℤ (pos 2048) ∷ []

@@ -127,13 +127,6 @@ pub fn bndsz(band: usize) -> u8
 }
 
 // The whole table, for a caller that reads many entries: it is then laid out once.
-pub fn bndtab_table() -> [u8; 50]
-    ensures { λ r. ⌜ r ≡ bndtab ⌝ }
-{
-    BNDTAB
-}
-
-// The whole table, for a caller that reads many entries: it is then laid out once.
 pub fn bndsz_table() -> [u8; 50]
     ensures { λ r. ⌜ r ≡ bndsz ⌝ }
 {

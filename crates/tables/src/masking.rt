@@ -270,10 +270,3 @@ pub fn masktab(bin: usize) -> u8
 {
     MASKTAB[bin]
 }
-
-// The whole table, for a caller that reads many entries: it is then laid out once.
-pub fn masktab_table() -> [u8; 256]
-    ensures { λ r. ⌜ r ≡ masktab ⌝ }
-{
-    MASKTAB
-}

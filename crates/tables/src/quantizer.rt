@@ -140,6 +140,13 @@ pub fn quantization_bits(bap: u8) -> u8
     QUANTIZATION_BITS[bap as usize]
 }
 
+// The whole table, for a caller that reads many entries: it is then laid out once.
+pub fn quantization_bits_table() -> [u8; 16]
+    ensures { λ r. ⌜ r ≡ quantizationBits ⌝ }
+{
+    QUANTIZATION_BITS
+}
+
 // The level that a code of bap 1 to 5 stands for.
 pub fn mant_level(bap: u8, code: u16) -> f32
     requires { ⌜ (1 ≤ bap) × (bap ≤ 5) × (code < levelCount bap) ⌝ }
@@ -153,11 +160,4 @@ pub fn mant_level(bap: u8, code: u16) -> f32
         4 => MANT_LEVEL_11[k],
         _ => MANT_LEVEL_15[k],
     }
-}
-
-// The whole table, for a caller that reads many entries: it is then laid out once.
-pub fn baptab_table() -> [u8; 64]
-    ensures { λ r. ⌜ r ≡ baptab ⌝ }
-{
-    BAPTAB
 }

@@ -16,7 +16,7 @@ add-mask-2 c = omega arith
 
 returns : tie.Need-returns
 unfolding heldBase
-returns c = (cc, omega arith, omega arith)
+returns c = (simp (c .less2 .ensures, c .before .before .less .ensures, c .before .before .before .before .masking-curve .ensures), omega arith, omega arith)
 
 pub band-base-spec : {M : Type 1} → statement M
 band-base-spec =

@@ -7,8 +7,7 @@ use Rattle.allocation.proofs.bap.fill_bins.Tie as tie
 fill-singles-requires : tie.Need-fill-singles-requires
 fill-singles-requires c κs =
     let r = c .before .before .before .before .pre in
-    let l = r .1 .1 .1 .0 in
-    ((omega arith, r .0 .1, r .0 .2), (r .1 .0, (r .1 .1 .0, ((l .0, l .1, l .2, l .3, l .4), r .1 .1 .1 .1))))
+    ((omega arith, r .0 .1, r .0 .2), r .1)
 
 returns : tie.Need-returns
 returns c = c .before .before .fill-singles .ensures
@@ -16,15 +15,14 @@ returns c = c .before .before .fill-singles .ensures
 fill-singles-requires-2 : tie.Need-fill-singles-requires-2
 fill-singles-requires-2 c κs =
     let r = c .before .before .before .before .pre in
-    let l = r .1 .1 .1 .0 in
-    ((omega arith, omega arith, omega arith), (λ bin h. r .1 .0 bin (omega arith), (r .1 .1 .0, ((l .0, l .1, l .2, l .3, l .4), r .1 .1 .1 .1))))
+    ((omega arith, omega arith, omega arith), (λ bin h. r .1 .0 bin (omega arith), r .1 .1))
 
 fill-joined-requires : tie.Need-fill-joined-requires
 fill-joined-requires c κs =
     let r = c .before .before .before .before .before .before .before .before .before .before .pre in
-    let l = r .1 .1 .1 .0 in (
-      (c .before .before .before .before .before .before .before .if1 .left, r .0 .0, r .0 .1, omega (arith, r .0 .2, c .before .before .before .before .before .fill-singles2 .kept)),
-      (r .1 .0, (r .1 .1 .0, ((l .0, l .1, l .2, l .3, l .4, c .before .before .bndsz-table .ensures), (r .1 .1 .1 .1, c .before .before .before .before .before .fill-singles2 .ensures)))),
+    let s = c .before .before .before .before .before .fill-singles2 in (
+      (c .before .before .before .before .before .before .before .if1 .left, r .0 .0, r .0 .1, omega (arith, r .0 .2, s .kept)),
+      (r .1 .0, (r .1 .1 .0, (r .1 .1 .1 .0, ((r .1 .1 .1 .1, c .before .before .bndsz-table .ensures), s .ensures)))),
     )
 
 returns-2 : tie.Need-returns-2

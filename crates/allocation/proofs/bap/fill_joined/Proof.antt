@@ -3,8 +3,9 @@ use Prim.Native.Nat.{_-_, _≤_}
 use mathlib.Core.Path.{ap, _∙_}
 use native.Mathlib.Omega.{arith}
 use lib.ListN.{length, take, drop}
+use Rattle.excitation.specs.BandOrder.{NextBin}
+use Rattle.excitation.specs.BandOrderLaws.{ends-at, next-bounds}
 use Rattle.allocation.specs.Held.{bapBy}
-use Rattle.allocation.proofs.Joining.{NextBin, ends-at, next-bounds}
 use Rattle.allocation.proofs.Filling.{length-window, Filled, filled-start, filled-more, filled-end, part-lengths, part-exponents, windows-read}
 use Rattle.allocation.proofs.bap.fill_joined.Statement.{statement}
 use Rattle.allocation.proofs.bap.fill_joined.Tie as tie
@@ -48,14 +49,15 @@ element-copy-out-band-base-4 c = omega (arith, c .before .before .before .before
 band-base-requires : tie.Need-band-base-requires Inv-loop μ-loop
 band-base-requires c κs =
     let r = c .before .before .before .before .before .before .before .before .before .before .pre .1 .1 in
-    (r .0, r .1 .1 .0 .0 (c .before .before .before .before .before .before .before .loop .band))
+    (r .0, r .1 .0 .4 (c .before .before .before .before .before .before .before .loop .band))
 
 -- where the band ends
 next-of : (c : tie.After-band-base Inv-loop μ-loop) → NextBin (c .before .before .before .before .before .before .before .before .before .before .before .args .end) (c .before .before .before .before .before .before .before .before .loop .band) (c .before .before .before .before .before .before .before .before .loop .bin) (c .before .before .before .before .before .band-end .result)
 next-of c =
-    let h = c .before .before .before .before .before .before .before .before .loop .inv .here (c .before .before .before .before .before .before .before .loop-test .taken) in
+    let taken = c .before .before .before .before .before .before .before .loop-test .taken in
+    let h = c .before .before .before .before .before .before .before .before .loop .inv .here taken in
     let r = c .before .before .before .before .before .before .before .before .before .before .before .pre in
-    next-bounds _ _ _ _ (h .0) (h .1) (c .before .before .before .before .before .before .before .loop-test .taken) (r .0 .1) (ends-at _ _ _ _ _ (h .1) (r .1 .1 .1 .0 .5) (c .before .before .before .before .before .band-end .ensures))
+    next-bounds _ _ _ _ (h .0) (h .1) taken (r .0 .1) (ends-at _ _ _ _ _ (h .1) (r .1 .1 .1 .1 .0 .1) (c .before .before .before .before .before .band-end .ensures))
 
 sub-fill-band : tie.Need-sub-fill-band Inv-loop μ-loop
 sub-fill-band c = omega (arith, next-of c)
@@ -77,12 +79,14 @@ part-fill-band-end-2 c = omega (arith, next-of (c .before), c .before .before .b
 
 fill-band-requires : tie.Need-fill-band-requires Inv-loop μ-loop
 fill-band-requires c κs =
-    let r = c .before .before .before .before .before .before .before .before .before .before .before .before .before .pre in
+    let turn = c .before .before .before .before .before .before .before .before .before .before .loop in
+    let entered = c .before .before .before .before .before .before .before .before .before .before .before .before .before in
+    let r = entered .pre in
     let n = next-of (c .before .before) in
     let b = c .before .before .band-base .ensures in
-    let room : c .before .before .before .before .before .before .before .before .before .before .before .before .before .args .end ≤ length (c .before .before .before .before .before .before .before .before .before .before .loop .bap) = omega (arith, r .0, c .before .before .before .before .before .before .before .before .before .before .loop .inv .same-length) in (
-      (part-lengths _ _ _ _ _ (n .middle) (r .0 .2) room, ap length (r .1 .1 .1 .0 .4) ∙ length-window, b .1, b .2),
-      part-exponents _ (c .before .before .before .before .before .before .before .before .before .before .loop .bap) _ _ _ (n .middle) (r .0 .2) room (r .1 .0),
+    let room : entered .args .end ≤ length (turn .bap) = omega (arith, r .0, turn .inv .same-length) in (
+      (part-lengths _ _ _ _ _ (n .middle) (r .0 .2) room, ap length (r .1 .1 .1 .1 .0 .0) ∙ length-window, b .1, b .2),
+      part-exponents _ (turn .bap) _ _ _ (n .middle) (r .0 .2) room (r .1 .0),
     )
 
 add-band : tie.Need-add-band Inv-loop μ-loop
@@ -93,12 +97,17 @@ loop-less c = omega (arith, next-of (c .before .before .before .before .before))
 
 loop-again : tie.Need-loop-again Inv-loop μ-loop
 loop-again c =
-    let r = c .before .before .before .before .before .before .before .before .before .before .before .before .before .before .before .before .pre in
-    let f = c .before .before .before .before .before .before .before .before .before .before .before .before .before .loop .inv in
-    let h = f .here (c .before .before .before .before .before .before .before .before .before .before .before .before .loop-test .taken) in
-    let n = ends-at _ _ _ _ _ (h .1) (r .1 .1 .1 .0 .5) (c .before .before .before .before .before .before .before .before .before .before .band-end .ensures) in
-    filled-more _ _ _ _ _ _ (r .1 .1 .0 .2) _ _ (r .0 .1) (r .0 .3) (r .1 .0) _ _ _ _ _ _ f (c .before .before .before .before .before .before .before .before .before .before .before .before .loop-test .taken) n (r .1 .1 .1 .1 .0 .1 _ (h .0)) (c .before .before .before .before .before .band-base .ensures .0)
-    (windows-read _ _ _ (take (c .before .before .before .before .before .before .before .before .before .before .band-end .result - c .before .before .before .before .before .before .before .before .before .before .before .before .before .loop .bin) (drop (c .before .before .before .before .before .before .before .before .before .before .before .before .before .loop .bin) (c .before .before .before .before .before .before .before .before .before .before .before .before .before .before .before .before .args .exp .now))) _ (r .1 .1 .1 .0 .4) (c .before .before .fill-band .ensures))
+    let based = c .before .before .before .before .before .band-base .ensures .0 in
+    let ended = c .before .before .before .before .before .before .before .before .before .before .band-end in
+    let taken = c .before .before .before .before .before .before .before .before .before .before .before .before .loop-test .taken in
+    let turn = c .before .before .before .before .before .before .before .before .before .before .before .before .before .loop in
+    let entered = c .before .before .before .before .before .before .before .before .before .before .before .before .before .before .before .before in
+    let r = entered .pre in
+    let h = turn .inv .here taken in
+    let tables = r .1 .1 .1 .1 .0 in
+    let n = ends-at _ _ _ _ _ (h .1) (tables .1) (ended .ensures) in
+    filled-more _ _ _ _ _ _ (r .1 .1 .0 .2) _ _ (r .0 .1) (r .0 .3) (r .1 .0) _ _ _ _ _ _ (turn .inv) taken n (r .1 .1 .1 .0 .5 _ (h .0)) based
+    (windows-read _ _ _ (take (ended .result - turn .bin) (drop (turn .bin) (entered .args .exp .now))) _ (tables .0) (c .before .before .fill-band .ensures))
 
 same-length : tie.Need-same-length Inv-loop μ-loop
 same-length c = c .before .loop .inv .same-length

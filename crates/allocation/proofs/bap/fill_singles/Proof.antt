@@ -5,8 +5,9 @@ use native.Mathlib.Omega.{arith}
 use lib.ListN.{length, take, length-set}
 use Rattle.bits.specs.Parts.{tab}
 use Rattle.bits.specs.PartsLaws.{tab-start, tab-more}
+use Rattle.tables.specs.Rules.{masktab-one}
 use Rattle.allocation.specs.Held.{bapBy}
-use Rattle.allocation.proofs.Filling.{length-window, window-read, bap-by, masktab-single}
+use Rattle.allocation.proofs.Filling.{length-window, window-read, bap-by}
 use Rattle.allocation.proofs.bap.fill_singles.Statement.{statement}
 use Rattle.allocation.proofs.bap.fill_singles.Tie as tie
 
@@ -25,21 +26,21 @@ loop-holds c =
 band-base-requires : tie.Need-band-base-requires Inv-loop μ-loop
 band-base-requires c κs =
     let r = c .before .before .before .before .before .before .before .before .pre .1 .1 in
-    let k = r .1 .1 .0 (c .before .before .before .before .before .loop .bin) in
+    let k = r .1 .0 .4 (c .before .before .before .before .before .loop .bin) in
     (r .0, k)
 
 pointer-requires : tie.Need-pointer-requires Inv-loop μ-loop
 pointer-requires c κs =
     let r = c .before .before .before .before .before .before .before .before .before .before .pre in
     let b = c .before .band-base .ensures in
-    (ap length (r .1 .1 .1 .0 .4) ∙ length-window, b .1, b .2, r .1 .0 _ (c .before .before .before .before .before .before .loop-test .taken))
+    (ap length (r .1 .1 .1 .1) ∙ length-window, b .1, b .2, r .1 .0 _ (c .before .before .before .before .before .before .loop-test .taken))
 
 loop-again : tie.Need-loop-again Inv-loop μ-loop
 loop-again c =
     let l = c .before .before .before .before .before .before .before .before .loop .inv in
     let r = c .before .before .before .before .before .before .before .before .before .before .before .pre in
     let v =
-    bap-by _ _ _ _ _ _ (r .1 .1 .0 .2) _ _ _ _ (masktab-single (c .before .before .before .before .before .before .before .before .loop .bin) (omega arith)) (r .1 .0 _ (c .before .before .before .before .before .before .before .loop-test .taken)) (r .1 .1 .1 .1 .1 (c .before .before .before .before .before .before .before .before .loop .bin) (omega arith)) (c .before .before .band-base .ensures .0) (window-read _ _ _ (r .1 .1 .1 .0 .4) (c .pointer .ensures)) in
+    bap-by _ _ _ _ _ _ (r .1 .1 .0 .2) _ _ _ _ (masktab-one (c .before .before .before .before .before .before .before .before .loop .bin) (omega arith)) (r .1 .0 _ (c .before .before .before .before .before .before .before .loop-test .taken)) (r .1 .1 .1 .0 .5 (c .before .before .before .before .before .before .before .before .loop .bin) (omega arith)) (c .before .before .band-base .ensures .0) (window-read _ _ _ (r .1 .1 .1 .1) (c .pointer .ensures)) in
     (tab-more _ _ _ _ (omega arith) (l .0) v, omega arith, rw length-set (l .2))
 
 same-length : tie.Need-same-length Inv-loop μ-loop

@@ -15,9 +15,6 @@ Inv-loop offst len ba nseg all₀ i₀ all i = (i ≤ nseg) × (all ≡ allBelow
 abbrev μ-loop : tie.MeasureT-loop
 μ-loop offst len ba nseg all₀ i₀ all i = nseg - i
 
-loop-holds : tie.Need-loop-holds Inv-loop μ-loop
-loop-holds c = search needs
-
 loop-again : tie.Need-loop-again Inv-loop μ-loop
 unfolding segmentInRange
 loop-again c = (omega arith, rw (add-one, c .before .before .before .before .loop .inv .1))
@@ -33,7 +30,7 @@ segments-in-range-spec =
     (tie.spec
     Inv-loop
     μ-loop
-    loop-holds
+    (λ c. search needs)
     (λ c. search needs)
     (λ c. search needs)
     (λ c. search needs)

@@ -17,12 +17,6 @@ abbrev μ-loop : tie.MeasureT-loop
 loop-holds : tie.Need-loop-holds Inv-loop μ-loop
 loop-holds c = (omega arith, omega arith, c .before .pre .0 .3)
 
-add-psd : tie.Need-add-psd Inv-loop μ-loop
-add-psd c = search needs
-
-shared-slice-read-psd : tie.Need-shared-slice-read-psd Inv-loop μ-loop
-shared-slice-read-psd c = search needs
-
 psd-requires : tie.Need-psd-requires Inv-loop μ-loop
 psd-requires c κs = c .before .before .before .before .pre .1 .0 _ (omega arith)
 
@@ -31,12 +25,6 @@ logadd-requires c κs =
     let s = c .before .before .before .before .before in
     let l = c .before .before .before .loop in
     ((omega (arith, joinedPsd-most (s .args .exp .now) (s .args .j) (l .at)), omega arith), s .pre .1 .1)
-
-add-at : tie.Need-add-at Inv-loop μ-loop
-add-at c = search needs
-
-loop-less : tie.Need-loop-less Inv-loop μ-loop
-loop-less c = omega arith
 
 loop-again : tie.Need-loop-again Inv-loop μ-loop
 loop-again c =
@@ -56,11 +44,11 @@ joined-on-spec =
     Inv-loop
     μ-loop
     loop-holds
-    add-psd
-    shared-slice-read-psd
+    (λ c. search needs)
+    (λ c. search needs)
     psd-requires
     logadd-requires
-    add-at
-    loop-less
+    (λ c. search needs)
+    (λ c. omega arith)
     loop-again
     returns)

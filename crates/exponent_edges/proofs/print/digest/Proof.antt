@@ -12,37 +12,16 @@ Inv-loop entries sum₀ i₀ i-end sum i = (i-end ≡ length entries) × (i ≤ 
 abbrev μ-loop : tie.MeasureT-loop
 μ-loop entries sum₀ i₀ i-end sum i = i-end - i
 
-loop-holds : tie.Need-loop-holds Inv-loop μ-loop
-loop-holds c = search needs
-
-shared-slice-read-next-digest : tie.Need-shared-slice-read-next-digest Inv-loop μ-loop
-shared-slice-read-next-digest c = search needs
-
-next-digest-requires : tie.Need-next-digest-requires Inv-loop μ-loop
-next-digest-requires c κs = search needs
-
-add-i : tie.Need-add-i Inv-loop μ-loop
-add-i c = search needs
-
-loop-less : tie.Need-loop-less Inv-loop μ-loop
-loop-less c = search needs
-
-loop-again : tie.Need-loop-again Inv-loop μ-loop
-loop-again c = search needs
-
-returns : tie.Need-returns Inv-loop μ-loop
-returns c = search needs
-
 pub digest-spec : {M : Type 1} → statement M
 digest-spec =
     tie.close
     (tie.spec
     Inv-loop
     μ-loop
-    loop-holds
-    shared-slice-read-next-digest
-    next-digest-requires
-    add-i
-    loop-less
-    loop-again
-    returns)
+    (λ c. search needs)
+    (λ c. search needs)
+    (λ c κs. search needs)
+    (λ c. search needs)
+    (λ c. search needs)
+    (λ c. search needs)
+    (λ c. search needs))

@@ -13,9 +13,6 @@ at-most true d25 end h = omega arith
 at-most false true end h = omega arith
 at-most false false end h = omega arith
 
-groups-of-requires : tie.Need-groups-of-requires
-groups-of-requires c κs = search needs
-
 returns : tie.Need-returns
 unfolding groupCount
 returns c =
@@ -24,4 +21,5 @@ returns c =
     (e, omega (arith, at-most (eqb (a .grpsize) 1) (eqb (a .grpsize) 2) (a .end) (omega arith)))
 
 pub group-count-spec : {M : Type 1} → statement M
-group-count-spec = tie.close (tie.spec groups-of-requires returns)
+group-count-spec =
+    tie.close (tie.spec (λ c κs. search needs) returns)

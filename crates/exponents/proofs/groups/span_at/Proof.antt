@@ -7,9 +7,6 @@ use borrow.Author.Needs.{needs}
 use Rattle.exponents.proofs.groups.span_at.Statement.{statement}
 use Rattle.exponents.proofs.groups.span_at.Tie as tie
 
-shared-slice-read-exponent : tie.Need-shared-slice-read-exponent
-shared-slice-read-exponent c = search needs
-
 add-t8 : tie.Need-add-t8
 add-t8 c =
     let a = c .before .before .args in
@@ -42,4 +39,4 @@ returns-2 c =
 
 pub span-at-spec : {M : Type 1} → statement M
 span-at-spec =
-    tie.close (tie.spec shared-slice-read-exponent add-t8 sub-t9 cast-t10 returns returns-2)
+    tie.close (tie.spec (λ c. search needs) add-t8 sub-t9 cast-t10 returns returns-2)

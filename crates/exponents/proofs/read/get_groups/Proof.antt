@@ -10,7 +10,8 @@ use Rattle.bits.specs.ReadLaws.{found-value, found-past}
 use Rattle.bits.specs.Reading.{ok, steps}
 use Rattle.bits.specs.ReadingLaws.{steps-start, steps-again, steps-fault}
 use Rattle.exponents.specs.Groups.{groupCount}
-use Rattle.exponents.specs.GroupsLaws.{end-numbers, span-wide}
+use Rattle.shaping.specs.GroupsLaws.{span-bounds}
+use Rattle.sheet.specs.RangesLaws.{end-bounds}
 use Rattle.exponents.specs.Reading.{readGroup, readGroups}
 use Rattle.exponents.proofs.Placing.{reached-none, reached-some}
 use Rattle.exponents.proofs.Turns.{turn-past, turn-bad, turn-good, first-set, groups-done}
@@ -34,40 +35,27 @@ abbrev μ-loop : tie.MeasureT-loop
 
 group-count-requires : tie.Need-group-count-requires Inv-loop μ-loop
 group-count-requires c κs =
-    let n = end-numbers (length (c .before .before .args .exp .now)) (c .before .before .pre .1 .0) in
+    let n = end-bounds (length (c .before .before .args .exp .now)) (c .before .before .pre .1 .0) in
     omega arith
-
-cast-exp : tie.Need-cast-exp Inv-loop μ-loop
-cast-exp c = omega arith
 
 slice-write-exp : tie.Need-slice-write-exp Inv-loop μ-loop
 slice-write-exp c =
-    let n = end-numbers (length (c .before .before .before .args .exp .now)) (c .before .before .before .pre .1 .0) in
+    let n = end-bounds (length (c .before .before .before .args .exp .now)) (c .before .before .before .pre .1 .0) in
     omega arith
 
 loop-holds : tie.Need-loop-holds Inv-loop μ-loop
 loop-holds c =
-    let n = end-numbers (length (c .before .before .before .args .exp .now)) (c .before .before .before .pre .1 .0) in
-    (omega arith, simp length-set, omega arith, omega arith, omega arith, omega arith, rw (first-set (c .before .before .before .args .exp .now) (c .before .before .before .args .first) (omega arith)) (steps-start _ _ _))
-
-get-requires : tie.Need-get-requires Inv-loop μ-loop
-get-requires c κs = omega arith
-
-enum-known-got : tie.Need-enum-known-got Inv-loop μ-loop
-enum-known-got c = search needs
-
-enum-told : tie.Need-enum-told Inv-loop μ-loop
-enum-told c = search needs
-
-same-length : tie.Need-same-length Inv-loop μ-loop
-same-length c = omega arith
+    let x = c .before .before .before .args in
+    let n = end-bounds (length (x .exp .now)) (c .before .before .before .pre .1 .0) in
+    (omega arith, simp length-set, omega arith, omega arith, omega arith, omega arith, rw (first-set (x .exp .now) (x .first) (omega arith)) (steps-start _ _ _))
 
 returns : tie.Need-returns Inv-loop μ-loop
 unfolding readGroups
 returns c =
+    let x = c .before .before .before .before .before .before .before .before .args in
     let l = c .before .before .before .before .loop in
     let past = found-past _ (sym (c .before .before .get .ensures) ∙ c .enum-told .given .1) in
-    let g : l .i < groupCount (length (c .before .before .before .before .before .before .before .before .args .exp .now)) (c .before .before .before .before .before .before .before .before .args .grpsize) = omega arith in (
+    let g : l .i < groupCount (length (x .exp .now)) (x .grpsize) = omega arith in (
       record {
         good = λ z. absurd (omega arith);
         bad = λ z. steps-fault _ (l .i) _ _ _ _ _ _ g (l .inv .6) (turn-past _ _ _ _ _ past);
@@ -77,24 +65,21 @@ returns c =
       omega arith,
     )
 
-add-at : tie.Need-add-at Inv-loop μ-loop
-add-at c = omega arith
-
 place-group-requires : tie.Need-place-group-requires Inv-loop μ-loop
 place-group-requires c κs =
-    let n = end-numbers (length (c .before .before .before .before .before .before .before .before .before .before .args .exp .now)) (c .before .before .before .before .before .before .before .before .before .before .pre .1 .0) in
-    let w = span-wide (c .before .before .before .before .before .before .before .before .before .before .args .grpsize) (c .before .before .before .before .before .before .before .before .before .before .pre .1 .1) in
+    let given = c .before .before .before .before .before .before .before .before .before .before .pre in
+    let x = c .before .before .before .before .before .before .before .before .before .before .args in
+    let n = end-bounds (length (x .exp .now)) (given .1 .0) in
+    let w = span-bounds (x .grpsize) (given .1 .1) in
     omega arith
-
-same-length-2 : tie.Need-same-length-2 Inv-loop μ-loop
-same-length-2 c = omega arith
 
 returns-2 : tie.Need-returns-2 Inv-loop μ-loop
 unfolding readGroups
 returns-2 c =
+    let x = c .before .before .before .before .before .before .before .before .before .before .before .before .before .before .args in
     let l = c .before .before .before .before .before .before .before .before .before .before .loop in
-    let f = found-value 7 (l .at) (bitsOf (c .before .before .before .before .before .before .before .before .before .before .before .before .before .before .args .input .now)) _ (sym (c .before .before .before .before .before .before .before .before .get .ensures) ∙ c .before .before .before .before .before .before .got .given .1) in
-    let g : l .i < groupCount (length (c .before .before .before .before .before .before .before .before .before .before .before .before .before .before .args .exp .now)) (c .before .before .before .before .before .before .before .before .before .before .before .before .before .before .args .grpsize) = omega arith in
+    let f = found-value 7 (l .at) (bitsOf (x .input .now)) _ (sym (c .before .before .before .before .before .before .before .before .get .ensures) ∙ c .before .before .before .before .before .before .got .given .1) in
+    let g : l .i < groupCount (length (x .exp .now)) (x .grpsize) = omega arith in
     let bad = rw (l .inv .1) at (c .before .before .before .place-group .ensures .0 ∙ reached-none (c .before .before .before .place-group .result) (c .before .before .before .place-group .last .0) (c .if1 .taken)) in (
       record {
         good = λ z. absurd (omega arith);
@@ -104,12 +89,6 @@ returns-2 c =
       },
       omega arith,
     )
-
-add-i : tie.Need-add-i Inv-loop μ-loop
-add-i c = search needs
-
-loop-less : tie.Need-loop-less Inv-loop μ-loop
-loop-less c = omega arith
 
 loop-again : tie.Need-loop-again Inv-loop μ-loop
 loop-again c =
@@ -125,17 +104,16 @@ loop-again c =
       steps-again _ (l .i) _ _ _ _ _ (l .inv .6) (turn-good _ _ _ _ _ _ _ _ (f .0) good),
     )
 
-same-length-3 : tie.Need-same-length-3 Inv-loop μ-loop
-same-length-3 c = omega arith
-
 returns-3 : tie.Need-returns-3 Inv-loop μ-loop
 unfolding readGroups
 returns-3 c =
+    let given = c .before .before .before .before .before .pre in
+    let x = c .before .before .before .before .before .args in
     let l = c .before .loop in
-    let e : l .i ≡ groupCount (length (c .before .before .before .before .before .args .exp .now)) (c .before .before .before .before .before .args .grpsize) = omega arith in
-    let q : readGroups (length (c .before .before .before .before .before .args .exp .now)) (c .before .before .before .before .before .args .grpsize) (c .before .before .before .before .before .args .first) (from (c .before .before .before .before .before .args .pos) (bitsOf (c .before .before .before .before .before .args .input .now))) ≡ ok (take (l .p) (l .exp)) (from (l .at) (bitsOf (c .before .before .before .before .before .args .input .now))) = rw e at (l .inv .6) in (
+    let e : l .i ≡ groupCount (length (x .exp .now)) (x .grpsize) = omega arith in
+    let q : readGroups (length (x .exp .now)) (x .grpsize) (x .first) (from (x .pos) (bitsOf (x .input .now))) ≡ ok (take (l .p) (l .exp)) (from (l .at) (bitsOf (x .input .now))) = rw e at (l .inv .6) in (
       record {
-        good = λ z. groups-done _ _ _ (l .p) (l .exp) _ _ (c .before .before .before .before .before .pre .1 .0) (c .before .before .before .before .before .pre .1 .1) (omega arith) (l .inv .1) (omega arith) q;
+        good = λ z. groups-done _ _ _ (l .p) (l .exp) _ _ (given .1 .0) (given .1 .1) (omega arith) (l .inv .1) (omega arith) q;
         bad = λ z. absurd (z refl);
         within = rw length-bitsOf (omega arith);
         later = omega arith;
@@ -150,20 +128,20 @@ get-groups-spec =
     Inv-loop
     μ-loop
     group-count-requires
-    cast-exp
+    (λ c. omega arith)
     slice-write-exp
     loop-holds
-    get-requires
-    enum-known-got
-    enum-told
-    same-length
+    (λ c κs. omega arith)
+    (λ c. search needs)
+    (λ c. search needs)
+    (λ c. omega arith)
     returns
-    add-at
+    (λ c. omega arith)
     place-group-requires
-    same-length-2
+    (λ c. omega arith)
     returns-2
-    add-i
-    loop-less
+    (λ c. search needs)
+    (λ c. omega arith)
     loop-again
-    same-length-3
+    (λ c. omega arith)
     returns-3)

@@ -9,15 +9,6 @@ use borrow.Author.Needs.{needs}
 use Rattle.exponents.proofs.read.get_set.Statement.{statement}
 use Rattle.exponents.proofs.read.get_set.Tie as tie
 
-get-requires : tie.Need-get-requires
-get-requires c κs = search needs
-
-enum-known-got : tie.Need-enum-known-got
-enum-known-got c = search needs
-
-enum-told : tie.Need-enum-told
-enum-told c = search needs
-
 returns : tie.Need-returns
 returns c =
     let past = found-past _ (sym (c .before .before .get .ensures) ∙ c .enum-told .given .1) in (
@@ -30,31 +21,28 @@ returns c =
       omega arith,
     )
 
-add-get-groups : tie.Need-add-get-groups
-add-get-groups c = omega arith
-
 get-groups-requires : tie.Need-get-groups-requires
 get-groups-requires c κs =
-    let f = found-value 4 (c .before .before .before .before .before .before .before .args .pos) (bitsOf (c .before .before .before .before .before .before .before .args .input .now)) _ (sym (c .before .before .before .before .get .ensures) ∙ c .before .before .got .given .1) in
-    ((omega (arith, rw length-bitsOf at (f .1)), omega arith, omega (arith, f .2)), (c .before .before .before .before .before .before .before .pre .1 .0, c .before .before .before .before .before .before .before .pre .1 .1))
-
-same-length : tie.Need-same-length
-same-length c = search needs
+    let given = c .before .before .before .before .before .before .before .pre in
+    let x = c .before .before .before .before .before .before .before .args in
+    let f = found-value 4 (x .pos) (bitsOf (x .input .now)) _ (sym (c .before .before .before .before .get .ensures) ∙ c .before .before .got .given .1) in
+    ((omega (arith, rw length-bitsOf at (f .1)), omega arith, omega (arith, f .2)), (given .1 .0, given .1 .1))
 
 returns-2 : tie.Need-returns-2
 returns-2 c =
-    let f = found-value 4 (c .before .before .before .before .before .before .before .before .before .before .args .pos) (bitsOf (c .before .before .before .before .before .before .before .before .before .before .args .input .now)) _ (sym (c .before .before .before .before .before .before .before .get .ensures) ∙ c .before .before .before .before .before .got .given .1) in
+    let x = c .before .before .before .before .before .before .before .before .before .before .args in
+    let f = found-value 4 (x .pos) (bitsOf (x .input .now)) _ (sym (c .before .before .before .before .before .before .before .get .ensures) ∙ c .before .before .before .before .before .got .given .1) in
     (set-came _ _ _ _ _ _ _ (f .0) (c .before .before .get-groups .ensures .0), omega arith)
 
 pub get-set-spec : {M : Type 1} → statement M
 get-set-spec =
     tie.close
     (tie.spec
-    get-requires
-    enum-known-got
-    enum-told
+    (λ c κs. search needs)
+    (λ c. search needs)
+    (λ c. search needs)
     returns
-    add-get-groups
+    (λ c. omega arith)
     get-groups-requires
-    same-length
+    (λ c. search needs)
     returns-2)

@@ -9,32 +9,14 @@ use Rattle.exponents.proofs.read.place_group.Tie as tie
 returns : tie.Need-returns
 returns c = (group-above _ _ _ _ (omega arith), omega arith)
 
-place-span-requires : tie.Need-place-span-requires
-place-span-requires c κs = omega arith
-
-same-length : tie.Need-same-length
-same-length c = search needs
-
 returns-2 : tie.Need-returns-2
 returns-2 c = (group-first _ _ _ _ (omega arith) (c .before .before .before .place-span .ensures .0 ∙ reached-none (c .before .before .before .place-span .result) (c .before .before .before .place-span .last .0) (c .if2 .taken)), omega arith)
-
-place-span-requires-2 : tie.Need-place-span-requires-2
-place-span-requires-2 c κs = omega arith
-
-same-length-2 : tie.Need-same-length-2
-same-length-2 c = search needs
 
 returns-3 : tie.Need-returns-3
 returns-3 c =
     let one = c .before .before .before .before .before .before .before .before .place-span .ensures .0 ∙ reached-some (c .before .before .before .before .before .before .before .before .place-span .result) (c .before .before .before .before .before .before .before .before .place-span .last .0) (c .before .before .before .before .before .if2 .left) in
     let two = rw (c .before .before .before .before .before .before .before .before .place-span .kept .0) at (c .before .before .before .place-span2 .ensures .0) in
     (group-second _ _ _ _ _ (omega arith) one (two ∙ reached-none (c .before .before .before .place-span2 .result) (c .before .before .before .place-span2 .last .0) (c .if3 .taken)), omega arith)
-
-place-span-requires-3 : tie.Need-place-span-requires-3
-place-span-requires-3 c κs = omega arith
-
-same-length-3 : tie.Need-same-length-3
-same-length-3 c = search needs
 
 returns-4 : tie.Need-returns-4
 returns-4 c =
@@ -48,12 +30,12 @@ place-group-spec =
     tie.close
     (tie.spec
     returns
-    place-span-requires
-    same-length
+    (λ c κs. omega arith)
+    (λ c. search needs)
     returns-2
-    place-span-requires-2
-    same-length-2
+    (λ c κs. omega arith)
+    (λ c. search needs)
     returns-3
-    place-span-requires-3
-    same-length-3
+    (λ c κs. omega arith)
+    (λ c. search needs)
     returns-4)

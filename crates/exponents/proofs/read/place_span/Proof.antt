@@ -12,12 +12,6 @@ returns c =
     let a = c .before .before .args in
     (place-pad (a .exp .now) (a .p) (a .grpsize) (a .d) (c .if1 .taken) (omega arith), omega arith)
 
-sub-sum : tie.Need-sub-sum
-sub-sum c = omega arith
-
-slice-read-sum : tie.Need-slice-read-sum
-slice-read-sum c = omega arith
-
 cast-sum : tie.Need-cast-sum
 cast-sum c = omega (arith, c .before .before .slice-known .given (c .before .before .before .args .p - 1))
 
@@ -34,27 +28,6 @@ returns-3 c =
     let a = c .before .before .before .before .before .args in
     (place-above (a .exp .now) (a .p) (a .grpsize) (a .d) (omega arith) (omega arith) (c .if3 .taken), omega arith)
 
-span-end-requires : tie.Need-span-end-requires
-span-end-requires c κs = omega arith
-
-sub-fill : tie.Need-sub-fill
-sub-fill c = omega arith
-
-part-fill-start : tie.Need-part-fill-start
-part-fill-start c = search needs
-
-part-fill-end : tie.Need-part-fill-end
-part-fill-end c = omega arith
-
-cast-fill : tie.Need-cast-fill
-cast-fill c = omega arith
-
-fill-requires : tie.Need-fill-requires
-fill-requires c κs = search needs
-
-same-length : tie.Need-same-length
-same-length c = search needs
-
 returns-4 : tie.Need-returns-4
 returns-4 c =
     let a = c .before .before .before .before .before .before .before .before .before .before .args in
@@ -65,17 +38,17 @@ place-span-spec =
     tie.close
     (tie.spec
     returns
-    sub-sum
-    slice-read-sum
+    (λ c. omega arith)
+    (λ c. omega arith)
     cast-sum
     add-sum
     returns-2
     returns-3
-    span-end-requires
-    sub-fill
-    part-fill-start
-    part-fill-end
-    cast-fill
-    fill-requires
-    same-length
+    (λ c κs. omega arith)
+    (λ c. omega arith)
+    (λ c. search needs)
+    (λ c. omega arith)
+    (λ c. omega arith)
+    (λ c κs. search needs)
+    (λ c. search needs)
     returns-4)

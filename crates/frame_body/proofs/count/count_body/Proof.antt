@@ -1,13 +1,13 @@
 -- After b blocks both of their counts are stored.
-use mathlib.Core.Path.{_≡_, refl, _∙_}
+use mathlib.Core.Path.{_≡_, _∙_}
 use mathlib.Core.List.{[]}
-use Prim.Native.Nat.{_+_, _-_, _*_, _≤_, _<_}
+use Prim.Native.Nat.{_-_, _≤_}
 use lib.ListN.{length, take, drop}
 use Rattle.bits.specs.Parts.{tab}
-use Rattle.bits.specs.PartsLaws.{within, tab-start}
+use Rattle.bits.specs.PartsLaws.{tab-start}
 use Rattle.frame.specs.Layout.{rowOf}
 use Rattle.frame.specs.Body.{setsBits, mantissaBits, exponentCounts, mantissaCounts, countsOf}
-use Rattle.frame_rows.specs.RowsLaws.{held-most}
+use Rattle.frame_rows.specs.RowsLaws.{row-inside, held-most}
 use Rattle.frame_body.proofs.Blocks.{part-asked, sets-counted, mantissas-counted}
 use Rattle.frame_body.proofs.Counting.{two-more, two-end}
 use native.Mathlib.Omega.{arith}
@@ -31,64 +31,34 @@ loop-holds : tie.Need-loop-holds Inv-loop μ-loop
 loop-holds c = (omega arith, omega arith, tab-start _ [], tab-start _ [])
 
 mul-a : tie.Need-mul-a Inv-loop μ-loop
-mul-a c = omega (arith, held-most (c .before .before .before .before .before .before .before .pre .0), within (256 * c .before .before .before .before .before .before .before .args .track .channels) (c .before .loop .b) 6 (omega arith))
+mul-a c = omega (arith, row-inside (c .before .before .before .before .before .before .before .pre .0) _ (c .loop-test .taken))
 
 add-e : tie.Need-add-e Inv-loop μ-loop
-add-e c = omega (arith, held-most (c .before .before .before .before .before .before .before .pre .0), within (256 * c .before .before .before .before .before .before .before .args .track .channels) (c .before .loop .b) 6 (omega arith))
+add-e c = omega (arith, row-inside (c .before .before .before .before .before .before .before .pre .0) _ (c .loop-test .taken))
 
 count-sets-requires : tie.Need-count-sets-requires Inv-loop μ-loop
 count-sets-requires c κs = (c .before .before .before .before .before .before .before .pre .0, c .loop-test .taken)
 
-mul-counts : tie.Need-mul-counts Inv-loop μ-loop
-mul-counts c = search needs
-
-array-write-counts : tie.Need-array-write-counts Inv-loop μ-loop
-array-write-counts c = search needs
-
-sub-count-mantissas : tie.Need-sub-count-mantissas Inv-loop μ-loop
-sub-count-mantissas c = search needs
-
-part-count-mantissas-start : tie.Need-part-count-mantissas-start Inv-loop μ-loop
-part-count-mantissas-start c = search needs
-
 part-count-mantissas-end : tie.Need-part-count-mantissas-end Inv-loop μ-loop
-part-count-mantissas-end c = omega (arith, within (256 * c .before .before .before .before .before .before .before .before .args .track .channels) (c .before .before .loop .b) 6 (omega arith))
+part-count-mantissas-end c = omega (arith, row-inside (c .before .before .before .before .before .before .before .before .pre .0) _ (c .before .loop-test .taken))
 
 count-mantissas-requires : tie.Need-count-mantissas-requires Inv-loop μ-loop
 count-mantissas-requires c κs =
     let g = c .before .before .before .before .before .before .before .before .before .args in
     let p = c .before .before .before .before .before .before .before .before .before .pre in
-    let i = c .before .before .before .loop .b in
-    let z = 256 * g .track .channels in
-    part-asked (p .0) (g .exps .now) (g .bap .now) (g .codes .now) (p .1 .1 .0) (p .1 .1 .1) i (omega arith) (z * i) (z * i + z - z * i) refl (omega arith) (p .1 .0 .1)
-
-add-counts : tie.Need-add-counts Inv-loop μ-loop
-add-counts c = search needs
-
-mul-counts-2 : tie.Need-mul-counts-2 Inv-loop μ-loop
-mul-counts-2 c = search needs
-
-array-write-counts-2 : tie.Need-array-write-counts-2 Inv-loop μ-loop
-array-write-counts-2 c = search needs
-
-add-b : tie.Need-add-b Inv-loop μ-loop
-add-b c = search needs
-
-loop-less : tie.Need-loop-less Inv-loop μ-loop
-loop-less c = search needs
+    part-asked (p .0) (g .exps .now) (g .bap .now) (g .codes .now) (p .1 .1 .0) (p .1 .1 .1) (c .before .before .before .loop .b) (c .before .before .loop-test .taken) (p .1 .0 .1)
 
 loop-again : tie.Need-loop-again Inv-loop μ-loop
 loop-again c =
     let g = c .before .before .before .before .before .before .before .before .before .before .args in
     let p = c .before .before .before .before .before .before .before .before .before .before .pre in
     let i = c .before .before .before .before .loop .b in
-    let inside : i < 6 = omega arith in
-    let z = 256 * g .track .channels in
+    let inside = c .before .before .before .loop-test .taken in
     let exps = g .exps .now in
     let bap = g .bap .now in
     let codes = g .codes .now in
     let sets = c .before .before .count-sets .ensures ∙ sets-counted (p .0) exps bap codes (p .1 .1 .0) (p .1 .1 .1) i inside (p .1 .0 .0) in
-    let mantissas = c .count-mantissas .ensures .0 ∙ mantissas-counted (p .0) exps bap codes (p .1 .1 .0) (p .1 .1 .1) i inside (z * i) (z * i + z - z * i) refl (omega arith) in
+    let mantissas = c .count-mantissas .ensures .0 ∙ mantissas-counted (p .0) exps bap codes (p .1 .1 .0) (p .1 .1 .1) i inside in
     let more = two-more _ _ (c .before .before .before .before .loop .counts) i (c .before .before .before .before .loop .inv .1) (c .before .before .before .before .loop .inv .2) (c .before .before .before .before .loop .inv .3) _ _ inside sets mantissas in
     (omega arith, more .0, more .1, more .2)
 
@@ -107,16 +77,16 @@ count-body-spec =
     mul-a
     add-e
     count-sets-requires
-    mul-counts
-    array-write-counts
-    sub-count-mantissas
-    part-count-mantissas-start
+    (λ c. search needs)
+    (λ c. search needs)
+    (λ c. search needs)
+    (λ c. search needs)
     part-count-mantissas-end
     count-mantissas-requires
-    add-counts
-    mul-counts-2
-    array-write-counts-2
-    add-b
-    loop-less
+    (λ c. search needs)
+    (λ c. search needs)
+    (λ c. search needs)
+    (λ c. search needs)
+    (λ c. search needs)
     loop-again
     returns)

@@ -2,7 +2,7 @@
 use mathlib.Core.Path.{ap, _∙_}
 use Prim.Native.Nat.{ℕ, _+_, _*_}
 use Rattle.exponents.specs.Groups.{groupCount}
-use Rattle.exponents.specs.GroupsLaws.{end-numbers}
+use Rattle.sheet.specs.RangesLaws.{end-bounds}
 use Rattle.frame_body.proofs.Counting.{set-none, set-groups}
 use native.Mathlib.Omega.{arith}
 use borrow.Author.Needs.{needs}
@@ -12,22 +12,10 @@ use Rattle.frame_body.proofs.count.count_set.Tie as tie
 returns : tie.Need-returns
 returns c = (set-none (c .before .args .strategy) (c .before .args .end) (c .if1 .taken), omega arith)
 
-span-for-requires : tie.Need-span-for-requires
-span-for-requires c κs = search needs
-
 group-count-requires : tie.Need-group-count-requires
 group-count-requires c κs =
-    let n = end-numbers (c .before .before .args .end) (c .before .before .pre) in
-    (omega (arith, n .low), n .high)
-
-cast-result : tie.Need-cast-result
-cast-result c = search needs
-
-mul-result : tie.Need-mul-result
-mul-result c = search needs
-
-add-result : tie.Need-add-result
-add-result c = search needs
+    let n = end-bounds (c .before .before .args .end) (c .before .before .pre) in
+    (omega (arith, n .least), n .most)
 
 returns-2 : tie.Need-returns-2
 returns-2 c =
@@ -42,9 +30,9 @@ count-set-spec =
     tie.close
     (tie.spec
     returns
-    span-for-requires
+    (λ c κs. search needs)
     group-count-requires
-    cast-result
-    mul-result
-    add-result
+    (λ c. search needs)
+    (λ c. search needs)
+    (λ c. search needs)
     returns-2)

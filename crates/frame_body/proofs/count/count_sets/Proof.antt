@@ -3,11 +3,10 @@ use mathlib.Core.Path.{_≡_, refl, ap₂, _∙_}
 use Prim.Native.Nat.{_-_, _*_, _≤_}
 use Rattle.mantissas.specs.Count.{sum}
 use Rattle.frame.specs.Layout.{channels, endAt, strategyAt}
-use Rattle.frame.specs.Under.{held-channels, held-end, held-strategy}
+use Rattle.frame.specs.Under.{held-channels, held-end, held-strategy, held-legal}
 use Rattle.frame_rows.specs.RowsLaws.{held-most}
-use Rattle.frame_body.specs.Formula.{setCount, setsCount}
+use Rattle.frame_body.specs.Counts.{setCount, setsCount}
 use Rattle.frame_body.proofs.Counting.{sum-turn}
-use Rattle.frame_body.proofs.Holding.{end-legal}
 use native.Mathlib.Omega.{arith}
 use borrow.Author.Needs.{needs}
 use Rattle.frame_body.proofs.count.count_sets.Statement.{statement}
@@ -33,16 +32,13 @@ element-copy-out-end : tie.Need-element-copy-out-end Inv-loop μ-loop
 element-copy-out-end c = omega (arith, held-most (c .before .before .before .before .pre .0))
 
 count-set-requires : tie.Need-count-set-requires Inv-loop μ-loop
-count-set-requires c κs = end-legal (c .before .before .before .before .before .pre .0) _ (c .before .before .loop-test .taken)
+count-set-requires c κs = held-legal (c .before .before .before .before .before .pre .0) _ (c .before .before .loop-test .taken)
 
 add-n : tie.Need-add-n Inv-loop μ-loop
 add-n c = omega (arith, held-most (c .before .before .before .before .before .before .pre .0), c .count-set .ensures .1)
 
 add-c : tie.Need-add-c Inv-loop μ-loop
 add-c c = omega (arith, held-most (c .before .before .before .before .before .before .pre .0))
-
-loop-less : tie.Need-loop-less Inv-loop μ-loop
-loop-less c = search needs
 
 loop-again : tie.Need-loop-again Inv-loop μ-loop
 loop-again c =
@@ -69,6 +65,6 @@ count-sets-spec =
     count-set-requires
     add-n
     add-c
-    loop-less
+    (λ c. search needs)
     loop-again
     returns)

@@ -1,9 +1,8 @@
 -- The sets, and behind them the stream of the block.
 use mathlib.Core.Path.{sym}
-use Rattle.bits.specs.WriteLaws.{and-then}
+use Rattle.bits.specs.WriteLaws.{and-then, room-first, room-second}
 use Rattle.frame.specs.Body.{setsBits, mantissaBits, blockBits}
 use Rattle.frame_body.proofs.Blocks.{row-stream}
-use Rattle.frame_body.proofs.Turns.{room-first, room-second}
 use borrow.Author.Needs.{needs}
 use Rattle.frame_body.proofs.write.put_block.Statement.{statement}
 use Rattle.frame_body.proofs.write.put_block.Tie as tie
@@ -27,9 +26,6 @@ put-mantissas-requires c κs =
     let e = row-stream (a .sheet .now) (a .row .now) (a .bap .now) (a .codes .now) (p .0 .0) (p .0 .1) in
     (p .0 .2, rw e at (room-second _ sets mantissas (c .before .before .before .put-sets .ensures) (p .1) (c .before .before .before .put-sets .kept .0)))
 
-same-length : tie.Need-same-length
-same-length c = search needs
-
 returns : tie.Need-returns
 unfolding blockBits
 returns c =
@@ -40,4 +36,4 @@ returns c =
     and-then {x = sets} (c .before .before .before .before .before .before .put-sets .ensures) (rw (sym e) at (c .before .before .put-mantissas .ensures))
 
 pub put-block-spec : {M : Type 1} → statement M
-put-block-spec = tie.close (tie.spec put-sets-requires put-mantissas-requires same-length returns)
+put-block-spec = tie.close (tie.spec put-sets-requires put-mantissas-requires (λ c. search needs) returns)

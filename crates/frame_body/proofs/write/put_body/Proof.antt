@@ -2,17 +2,15 @@
 use mathlib.Core.Path.{_≡_, refl, _∙_}
 use mathlib.Core.Bool.{Bool}
 use mathlib.Core.List.{List}
-use Prim.Native.Nat.{ℕ, _+_, _-_, _*_, _≤_, _<_}
+use Prim.Native.Nat.{ℕ, _-_, _≤_, _<_}
 use lib.ListN.{length}
 use Rattle.bits.specs.Parts.{joined}
-use Rattle.bits.specs.PartsLaws.{within}
 use Rattle.bits.specs.Write.{Put}
+use Rattle.bits.specs.WriteLaws.{turn-start, turn-ready, turn-put}
 use Rattle.frame.specs.Layout.{rowOf}
 use Rattle.frame.specs.Body.{blockBits, bodyBits}
-use Rattle.frame_rows.specs.RowsLaws.{held-most, row-lent}
-use Rattle.frame_body.specs.Writing.{legal-sets}
-use Rattle.frame_body.proofs.Blocks.{row-long, row-clean, row-bap, row-codes}
-use Rattle.frame_body.proofs.Turns.{turn-start, turn-ready, turn-put}
+use Rattle.frame_rows.specs.RowsLaws.{held-most, row-lent, row-inside}
+use Rattle.frame_body.proofs.Blocks.{legal-sets, row-long, row-clean, row-bap, row-codes}
 use native.Mathlib.Omega.{arith}
 use borrow.Author.Needs.{needs}
 use Rattle.frame_body.proofs.write.put_body.Statement.{statement}
@@ -31,40 +29,22 @@ loop-holds : tie.Need-loop-holds Inv-loop μ-loop
 loop-holds c = (omega arith, refl, turn-start _ _ _ (omega arith) (omega arith))
 
 mul-a : tie.Need-mul-a Inv-loop μ-loop
-mul-a c = omega (arith, held-most (c .before .before .before .before .before .before .before .before .pre .0), within (256 * c .before .before .before .before .before .before .before .before .args .track .channels) (c .before .loop .b) 6 (omega arith))
+mul-a c = omega (arith, row-inside (c .before .before .before .before .before .before .before .before .pre .0) (c .before .loop .b) (omega arith))
 
 add-e : tie.Need-add-e Inv-loop μ-loop
-add-e c = omega (arith, held-most (c .before .before .before .before .before .before .before .before .pre .0), within (256 * c .before .before .before .before .before .before .before .before .args .track .channels) (c .before .loop .b) 6 (omega arith))
-
-sub-put-block : tie.Need-sub-put-block Inv-loop μ-loop
-sub-put-block c = search needs
-
-part-put-block-start : tie.Need-part-put-block-start Inv-loop μ-loop
-part-put-block-start c = search needs
+add-e c = omega (arith, row-inside (c .before .before .before .before .before .before .before .before .pre .0) (c .before .loop .b) (omega arith))
 
 part-put-block-end : tie.Need-part-put-block-end Inv-loop μ-loop
-part-put-block-end c = omega (arith, within (256 * c .before .before .before .before .before .before .before .before .before .args .track .channels) (c .before .before .loop .b) 6 (omega arith))
-
-sub-put-block-2 : tie.Need-sub-put-block-2 Inv-loop μ-loop
-sub-put-block-2 c = search needs
-
-part-put-block-start-2 : tie.Need-part-put-block-start-2 Inv-loop μ-loop
-part-put-block-start-2 c = search needs
+part-put-block-end c = omega (arith, row-inside (c .before .before .before .before .before .before .before .before .before .pre .0) (c .before .before .loop .b) (omega arith))
 
 part-put-block-end-2 : tie.Need-part-put-block-end-2 Inv-loop μ-loop
-part-put-block-end-2 c = omega (arith, within (256 * c .before .before .before .before .before .before .before .before .before .before .args .track .channels) (c .before .before .before .loop .b) 6 (omega arith))
+part-put-block-end-2 c = omega (arith, row-inside (c .before .before .before .before .before .before .before .before .before .before .pre .0) (c .before .before .before .loop .b) (omega arith))
 
 mul-put-block : tie.Need-mul-put-block Inv-loop μ-loop
-mul-put-block c = omega (arith, held-most (c .before .before .before .before .before .before .before .before .before .before .before .pre .0), within (256 * c .before .before .before .before .before .before .before .before .before .before .before .args .track .channels) (c .before .before .before .before .loop .b) 6 (omega arith))
-
-sub-put-block-3 : tie.Need-sub-put-block-3 Inv-loop μ-loop
-sub-put-block-3 c = search needs
-
-part-put-block-start-3 : tie.Need-part-put-block-start-3 Inv-loop μ-loop
-part-put-block-start-3 c = search needs
+mul-put-block c = omega (arith, row-inside (c .before .before .before .before .before .before .before .before .before .before .before .pre .0) (c .before .before .before .before .loop .b) (omega arith))
 
 part-put-block-end-3 : tie.Need-part-put-block-end-3 Inv-loop μ-loop
-part-put-block-end-3 c = omega (arith, within (256 * c .before .before .before .before .before .before .before .before .before .before .before .args .track .channels) (c .before .before .before .before .loop .b) 6 (omega arith))
+part-put-block-end-3 c = omega (arith, row-inside (c .before .before .before .before .before .before .before .before .before .before .before .pre .0) (c .before .before .before .before .loop .b) (omega arith))
 
 put-block-requires : tie.Need-put-block-requires Inv-loop μ-loop
 unfolding bodyBits
@@ -76,15 +56,12 @@ put-block-requires c κs =
     let given = p .1 .1 .1 .0 in
     let i = c .before .before .before .before .before .loop .b in
     let inside : i < 6 = omega arith in
-    let z = 256 * g .track .channels in
-    let a = z * i in
-    let k : a + z - a ≡ z = omega arith in
     let exps = g .exps .now in
     let bap = g .bap .now in
     let codes = g .codes .now in
     let blocks : ℕ → List Bool = λ j. blockBits (g .sheet .now) j (rowOf (g .sheet .now) j exps) (rowOf (g .sheet .now) j codes) in
     let room = turn-ready _ blocks i 6 inside (c .before .before .before .before .before .loop .inv .2) (p .1 .1 .1 .1) (c .before .before .before .before .before .loop .inv .1) in
-    rw (row-lent u i a (a + z - a) exps refl k, row-lent u i a (a + z - a) bap refl k, row-lent u i a (a + z - a) codes refl k) (
+    rw (row-lent u i exps, row-lent u i bap, row-lent u i codes) (
       u,
       (
         (inside, row-long u i exps inside (p .1 .0 .0)),
@@ -102,21 +79,12 @@ put-block-requires c κs =
       ),
     )
 
-add-b : tie.Need-add-b Inv-loop μ-loop
-add-b c = search needs
-
-loop-less : tie.Need-loop-less Inv-loop μ-loop
-loop-less c = search needs
-
 loop-again : tie.Need-loop-again Inv-loop μ-loop
 loop-again c =
     let g = c .before .before .before .before .before .before .before .before .before .before .before .before .before .before .before .args in
     let u = c .before .before .before .before .before .before .before .before .before .before .before .before .before .before .before .pre .0 in
     let i = c .before .before .before .before .before .before .before .before .loop .b in
-    let z = 256 * g .track .channels in
-    let a = z * i in
-    let k : a + z - a ≡ z = omega arith in
-    let p = rw (row-lent u i a (a + z - a) (g .exps .now) refl k, row-lent u i a (a + z - a) (g .codes .now) refl k) at (c .before .before .put-block .ensures) in
+    let p = rw (row-lent u i (g .exps .now), row-lent u i (g .codes .now)) at (c .before .before .put-block .ensures) in
     (omega arith, c .before .before .put-block .kept .0 ∙ c .before .before .before .before .before .before .before .before .loop .inv .1, turn-put _ _ (c .before .before .before .before .before .before .before .before .loop .inv .2) p)
 
 same-length : tie.Need-same-length Inv-loop μ-loop
@@ -138,19 +106,19 @@ put-body-spec =
     loop-holds
     mul-a
     add-e
-    sub-put-block
-    part-put-block-start
+    (λ c. search needs)
+    (λ c. search needs)
     part-put-block-end
-    sub-put-block-2
-    part-put-block-start-2
+    (λ c. search needs)
+    (λ c. search needs)
     part-put-block-end-2
     mul-put-block
-    sub-put-block-3
-    part-put-block-start-3
+    (λ c. search needs)
+    (λ c. search needs)
     part-put-block-end-3
     put-block-requires
-    add-b
-    loop-less
+    (λ c. search needs)
+    (λ c. search needs)
     loop-again
     same-length
     returns)

@@ -9,17 +9,11 @@ returns c =
     let a = c .before .before .before .args in
     put-none (a .strategy) (a .end) (a .part .now) _ _ _ _ (c .if1 .taken) (c .before .before .before .pre .1 .1)
 
-span-for-requires : tie.Need-span-for-requires
-span-for-requires c κs = search needs
-
 put-exponents-requires : tie.Need-put-exponents-requires
 put-exponents-requires c κs =
     let a = c .before .before .before .before .before .args in
     let p = c .before .before .before .before .before .pre in
     set-asked (a .strategy) (a .end) (a .part .now) _ (c .span-for .ensures) (c .before .before .if1 .left) _ (p .0 .0) (p .0 .1) (p .1 .0) (p .1 .1)
-
-same-length : tie.Need-same-length
-same-length c = search needs
 
 returns-2 : tie.Need-returns-2
 returns-2 c =
@@ -28,4 +22,4 @@ returns-2 c =
 
 pub put-part-spec : {M : Type 1} → statement M
 put-part-spec =
-    tie.close (tie.spec returns span-for-requires put-exponents-requires same-length returns-2)
+    tie.close (tie.spec returns (λ c κs. search needs) put-exponents-requires (λ c. search needs) returns-2)

@@ -2,17 +2,16 @@
 use mathlib.Core.Path.{_≡_, refl, _∙_}
 use mathlib.Core.Bool.{Bool}
 use mathlib.Core.List.{List}
-use Prim.Native.Nat.{ℕ, _+_, _-_, _*_, _≤_}
+use Prim.Native.Nat.{ℕ, _-_, _≤_}
 use lib.ListN.{length}
 use Rattle.bits.specs.Parts.{joined, piece}
-use Rattle.bits.specs.PartsLaws.{within, part-is, part-long}
 use Rattle.bits.specs.Write.{Put}
+use Rattle.bits.specs.WriteLaws.{turn-start, turn-ready, turn-put}
 use Rattle.frame.specs.Layout.{channels, endAt, strategyAt}
 use Rattle.frame.specs.Body.{setBits, setsBits}
-use Rattle.frame.specs.Under.{held-channels, held-end, held-strategy}
-use Rattle.frame_rows.specs.RowsLaws.{held-most}
-use Rattle.frame_body.proofs.Holding.{below, held-channel, end-legal}
-use Rattle.frame_body.proofs.Turns.{turn-start, turn-ready, turn-put}
+use Rattle.frame.specs.Under.{held-channels, held-end, held-strategy, held-below, held-channel, held-legal}
+use Rattle.frame_rows.specs.RowsLaws.{held-most, part-inside}
+use Rattle.frame_rows.specs.Walks.{lent-is, lent-long}
 use native.Mathlib.Omega.{arith}
 use borrow.Author.Needs.{needs}
 use Rattle.frame_body.proofs.write.put_sets.Statement.{statement}
@@ -42,14 +41,8 @@ mul-a c = omega (arith, held-most (c .before .before .before .before .before .be
 add-e : tie.Need-add-e Inv-loop μ-loop
 add-e c = omega (arith, held-most (c .before .before .before .before .before .before .before .pre .0))
 
-sub-put-part : tie.Need-sub-put-part Inv-loop μ-loop
-sub-put-part c = search needs
-
-part-put-part-start : tie.Need-part-put-part-start Inv-loop μ-loop
-part-put-part-start c = search needs
-
 part-put-part-end : tie.Need-part-put-part-end Inv-loop μ-loop
-part-put-part-end c = omega (arith, within 256 (c .before .before .before .before .loop .c) (c .before .before .before .before .before .before .before .before .args .t4 .channels) (c .before .before .before .loop-test .taken))
+part-put-part-end c = omega (arith, part-inside (c .before .before .before .before .before .before .before .before .pre .0) _ (c .before .before .before .loop-test .taken))
 
 put-part-requires : tie.Need-put-part-requires Inv-loop μ-loop
 unfolding setsBits
@@ -57,35 +50,29 @@ put-part-requires c κs =
     let g = c .before .before .before .before .before .before .before .before .before .args in
     let p = c .before .before .before .before .before .before .before .before .before .pre in
     let u = p .0 in
+    let n = g .t4 .channels in
     let i = c .before .before .before .before .before .loop .c in
     let inside = c .before .before .before .before .loop-test .taken in
-    let a = 256 * i in
-    let k : a + 256 - a ≡ 256 = omega arith in
-    let long = part-long 256 i a (a + 256 - a) (g .row .now) refl k (omega (arith, within 256 i (g .t4 .channels) inside)) in
-    let e = part-is 256 i a (a + 256 - a) (g .row .now) refl k in
+    let long = lent-long 256 n i inside (g .row .now) (p .1 .0 .1) in
+    let e = lent-is 256 n i inside (g .row .now) in
     let s = c .before .before .before .strategy-at .ensures ∙ held-strategy u (g .b) i in
     let sets : ℕ → List Bool = λ j. setBits (strategyAt (g .sheet .now) (g .b) j) (endAt (g .sheet .now) j) (piece 256 j (g .row .now)) in (
-      (end-legal u i inside, omega (arith, long, held-channel u i inside .end-most, held-end u i)),
+      (held-legal u i inside, omega (arith, long, held-channel u i inside .end-most, held-end u i)),
       (
-        rw (e, s, held-end u i) (p .1 .1 .0 .part i (below u i inside)),
-        rw (e, s, held-end u i) (turn-ready _ sets _ _ (below u i inside) (c .before .before .before .before .before .loop .inv .2) (p .1 .1 .1) (c .before .before .before .before .before .loop .inv .1)),
+        rw (e, s, held-end u i) (p .1 .1 .0 .part i (held-below u i inside)),
+        rw (e, s, held-end u i) (turn-ready _ sets _ _ (held-below u i inside) (c .before .before .before .before .before .loop .inv .2) (p .1 .1 .1) (c .before .before .before .before .before .loop .inv .1)),
       ),
     )
 
 add-c : tie.Need-add-c Inv-loop μ-loop
 add-c c = omega (arith, held-most (c .before .before .before .before .before .before .before .before .before .before .before .before .pre .0))
 
-loop-less : tie.Need-loop-less Inv-loop μ-loop
-loop-less c = search needs
-
 loop-again : tie.Need-loop-again Inv-loop μ-loop
 loop-again c =
     let g = c .before .before .before .before .before .before .before .before .before .before .before .before .args in
     let u = c .before .before .before .before .before .before .before .before .before .before .before .before .pre .0 in
     let i = c .before .before .before .before .before .before .before .before .loop .c in
-    let a = 256 * i in
-    let k : a + 256 - a ≡ 256 = omega arith in
-    let e = part-is 256 i a (a + 256 - a) (g .row .now) refl k in
+    let e = lent-is 256 (g .t4 .channels) i (c .before .before .before .before .before .before .before .loop-test .taken) (g .row .now) in
     let s = c .before .before .before .before .before .before .strategy-at .ensures ∙ held-strategy u (g .b) i in
     (omega arith, c .before .before .put-part .kept .0 ∙ c .before .before .before .before .before .before .before .before .loop .inv .1, turn-put _ _ (c .before .before .before .before .before .before .before .before .loop .inv .2) (rw (e, s, held-end u i) at (c .before .before .put-part .ensures)))
 
@@ -110,12 +97,12 @@ put-sets-spec =
     element-copy-out-end
     mul-a
     add-e
-    sub-put-part
-    part-put-part-start
+    (λ c. search needs)
+    (λ c. search needs)
     part-put-part-end
     put-part-requires
     add-c
-    loop-less
+    (λ c. search needs)
     loop-again
     same-length
     returns)

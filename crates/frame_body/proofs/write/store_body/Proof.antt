@@ -7,9 +7,6 @@ use borrow.Author.Needs.{needs}
 use Rattle.frame_body.proofs.write.store_body.Statement.{statement}
 use Rattle.frame_body.proofs.write.store_body.Tie as tie
 
-start-requires : tie.Need-start-requires
-start-requires c κs = search needs
-
 put-body-requires : tie.Need-put-body-requires
 put-body-requires c κs =
     let p = c .before .before .before .before .before .before .before .pre in
@@ -21,9 +18,6 @@ finish-requires c κs =
     let s : place (c .before .before .before .before .start .result) ≡ 0 = rw (c .before .before .before .before .start .ensures) refl in
     record { few = p .few; small = p .small; room = omega (arith, p .long) }
 
-same-length : tie.Need-same-length
-same-length c = search needs
-
 returns : tie.Need-returns
 returns c =
     let p = rw (c .before .before .before .before .before .before .before .start .ensures) at (c .before .before .before .before .before .before .put-body .ensures) in
@@ -31,4 +25,4 @@ returns c =
 
 pub store-body-spec : {M : Type 1} → statement M
 store-body-spec =
-    tie.close (tie.spec start-requires put-body-requires finish-requires same-length returns)
+    tie.close (tie.spec (λ c κs. search needs) put-body-requires finish-requires (λ c. search needs) returns)

@@ -5,10 +5,11 @@ use native.Mathlib.Omega.{arith}
 use lib.ListN.{length, take, drop, getD}
 use borrow.Author.Needs.{needs}
 use Rattle.bits.specs.Parts.{joined}
-use Rattle.bits.specs.PartsLaws.{within, part-long, fill-start, fill-more, fill-length, fill-end}
+use Rattle.bits.specs.PartsLaws.{within, fill-start, fill-end}
 use Rattle.frame.specs.Layout.{channels}
-use Rattle.frame.specs.Under.{held-channels, channel-known}
+use Rattle.frame.specs.Under.{held-channels, held-below, channel-known}
 use Rattle.frame_rows.specs.RowsLaws.{held-most, length-baps}
+use Rattle.frame_rows.specs.Walks.{lent-long, turn-length, turn-more}
 use Rattle.frame_runs.specs.RunsLaws.{below-fits, below-lent, whole-below}
 use Rattle.frame_encoder.specs.Codes.{codePart}
 use Rattle.frame_encoder.specs.CodesLaws.{codable-part, part-is}
@@ -21,11 +22,8 @@ Inv-loop sheet coeffs exps bap b row₀ track c₀ c-end row c = (c ≤ track .c
 abbrev μ-loop : tie.MeasureT-loop
 μ-loop sheet coeffs exps bap b row₀ track c₀ c-end row c = track .channels - c
 
-there : (c : tie.Start Inv-loop μ-loop) (i : ℕ) → i < c .args .t2 .channels → i < channels (c .args .sheet .now)
-there c i h = rw (← held-channels (c .pre .0)) h
-
 inside : (c : tie.Start Inv-loop μ-loop) (i : ℕ) → i < c .args .t2 .channels → 256 * i + 256 ≤ length (c .args .row .now)
-inside c i h = omega (arith, within 256 i (channels (c .args .sheet .now)) (there c i h), c .pre .1 .1 .1)
+inside c i h = omega (arith, within 256 i (channels (c .args .sheet .now)) (held-below (c .pre .0) i h), c .pre .1 .1 .1)
 
 loop-holds : tie.Need-loop-holds Inv-loop μ-loop
 loop-holds c = (omega arith, refl, fill-start 256 0 _ (c .before .before .before .before .before .args .row .now) refl)
@@ -39,7 +37,7 @@ element-copy-out-e c = omega (arith, held-most (c .before .before .before .befor
 add-e : tie.Need-add-e Inv-loop μ-loop
 add-e c =
     let s = c .before .before .before .before .before .before .before .before .before in
-    omega (arith, below-fits (s .pre .0) _ _ _ (c .before .part-start .ensures) (there s _ (c .before .before .loop-test .taken)) _ (s .pre .1 .0 .0 .whole), held-most (s .pre .0), held-channels (s .pre .0))
+    omega (arith, below-fits (s .pre .0) _ _ _ (c .before .part-start .ensures) (held-below (s .pre .0) _ (c .before .before .loop-test .taken)) _ (s .pre .1 .0 .0 .whole), held-most (s .pre .0), held-channels (s .pre .0))
 
 mul-p : tie.Need-mul-p Inv-loop μ-loop
 mul-p c = omega (arith, held-most (c .before .before .before .before .before .before .before .before .before .pre .0), c .before .before .loop-test .taken)
@@ -53,17 +51,17 @@ mul-code-part c = omega (arith, held-most (c .before .before .before .before .be
 part-code-part-end : tie.Need-part-code-part-end Inv-loop μ-loop
 part-code-part-end c =
     let s = c .before .before .before .before .before .before .before .before .before in
-    below-fits (s .pre .0) _ _ _ (c .before .part-start .ensures) (there s _ (c .before .before .loop-test .taken)) _ (s .pre .1 .0 .0 .whole)
+    below-fits (s .pre .0) _ _ _ (c .before .part-start .ensures) (held-below (s .pre .0) _ (c .before .before .loop-test .taken)) _ (s .pre .1 .0 .0 .whole)
 
 part-code-part-end-2 : tie.Need-part-code-part-end-2 Inv-loop μ-loop
 part-code-part-end-2 c =
     let s = c .before .before .before .before .before .before .before .before .before .before in
-    below-fits (s .pre .0) _ _ _ (c .before .before .part-start .ensures) (there s _ (c .before .before .before .loop-test .taken)) _ (s .pre .1 .0 .1 .whole)
+    below-fits (s .pre .0) _ _ _ (c .before .before .part-start .ensures) (held-below (s .pre .0) _ (c .before .before .before .loop-test .taken)) _ (s .pre .1 .0 .1 .whole)
 
 part-code-part-end-3 : tie.Need-part-code-part-end-3 Inv-loop μ-loop
 part-code-part-end-3 c =
     let s = c .before .before .before .before .before .before .before .before .before .before .before in
-    below-fits (s .pre .0) _ _ _ (c .before .before .before .part-start .ensures) (there s _ (c .before .before .before .before .loop-test .taken)) _ (ap length (s .pre .1 .0 .1 .is) ∙ length-baps _ _)
+    below-fits (s .pre .0) _ _ _ (c .before .before .before .part-start .ensures) (held-below (s .pre .0) _ (c .before .before .before .before .loop-test .taken)) _ (ap length (s .pre .1 .0 .1 .is) ∙ length-baps _ _)
 
 mul-code-part-2 : tie.Need-mul-code-part-2 Inv-loop μ-loop
 mul-code-part-2 c = omega (arith, held-most (c .before .before .before .before .before .before .before .before .before .before .before .before .pre .0), c .before .before .before .before .before .loop-test .taken)
@@ -76,16 +74,15 @@ code-part-requires c κs =
     let s = c .before .before .before .before .before .before .before .before .before .before .before .before .before in
     let u = s .pre .0 in
     let i = c .before .before .before .before .before .before .before .loop .c in
-    let h = there s i (c .before .before .before .before .before .before .loop-test .taken) in
+    let h = held-below u i (c .before .before .before .before .before .before .loop-test .taken) in
     let p = c .before .before .before .before .before .part-start .ensures in
-    let k : 256 * i + 256 - 256 * i ≡ 256 = omega arith in
     let lent = below-lent u _ _ _ p h (s .args .coeffs .now) in
     let whole = whole-below (s .args .sheet .now) (s .args .b) i (s .args .coeffs .now) (u .accepted) (s .pre .1 .1 .0) h (s .pre .1 .0 .0 .whole) in
     let short : length (take (c .before .before .before .before .before .part-start .result + getD (s .args .t2 .ends) i 0 - c .before .before .before .before .before .part-start .result) (drop (c .before .before .before .before .before .part-start .result) (s .args .coeffs .now))) ≤ 256 =
     omega (arith, ap length lent ∙ whole, channel-known (s .args .sheet .now) (u .accepted) i h .end-most) in
     let codable = codable-part (s .args .sheet .now) (u .accepted) (s .args .b) i (s .pre .1 .1 .0) h _ _ _ (s .pre .1 .0 .0) (s .pre .1 .0 .1) in (
       rw (lent, below-lent u _ _ _ p h (s .args .exps .now), below-lent u _ _ _ p h (s .args .bap .now)) codable,
-      (short, part-long 256 i (256 * i) (256 * i + 256 - 256 * i) (c .before .before .before .before .before .before .before .loop .row) refl k (omega (arith, inside s i (c .before .before .before .before .before .before .loop-test .taken), c .before .before .before .before .before .before .before .loop .inv .1))),
+      (short, lent-long 256 (channels (s .args .sheet .now)) i h (c .before .before .before .before .before .before .before .loop .row) (c .before .before .before .before .before .before .before .loop .inv .1 ∙ s .pre .1 .1 .1)),
     )
 
 loop-again : tie.Need-loop-again Inv-loop μ-loop
@@ -94,17 +91,16 @@ loop-again c =
     let l = c .before .before .before .before .before .before .before .before .before .before in
     let u = s .pre .0 in
     let i = l .loop .c in
-    let h = there s i (c .before .before .before .before .before .before .before .before .before .loop-test .taken) in
+    let h = held-below u i (c .before .before .before .before .before .before .before .before .before .loop-test .taken) in
     let p = c .before .before .before .before .before .before .before .before .part-start .ensures in
-    let n = 256 * i + 256 - 256 * i in
-    let k : n ≡ 256 = omega arith in
-    let f : 256 * i + 256 ≤ length (l .loop .row) = omega (arith, inside s i (c .before .before .before .before .before .before .before .before .before .loop-test .taken), l .loop .inv .1) in
+    let n = channels (s .args .sheet .now) in
+    let long = l .loop .inv .1 ∙ s .pre .1 .1 .1 in
     let y = c .before .before .code-part .last .1 .1 .1 .0 in
-    let ny : length y ≡ 256 = c .before .before .code-part .kept .1 .1 .1 .0 ∙ part-long 256 i (256 * i) n (l .loop .row) refl k f in
+    let kept = c .before .before .code-part .kept .1 .1 .1 .0 in
     let is = rw (below-lent u _ _ _ p h (s .args .coeffs .now), below-lent u _ _ _ p h (s .args .exps .now), below-lent u _ _ _ p h (s .args .bap .now)) at (c .before .before .code-part .ensures) in (
       omega (arith, c .before .before .before .before .before .before .before .before .before .loop-test .taken),
-      fill-length 256 i (256 * i) n (l .loop .row) y refl k f ny ∙ l .loop .inv .1,
-      fill-more 256 i (256 * i) n _ (l .loop .row) y refl k f ny (l .loop .inv .2)
+      turn-length 256 n i h (l .loop .row) y long kept ∙ l .loop .inv .1,
+      turn-more 256 n i h (l .loop .row) y long kept _ (l .loop .inv .2)
           (is ∙ part-is (s .args .sheet .now) (u .accepted) (s .args .b) i (s .pre .1 .1 .0) h (s .args .coeffs .now) (s .args .exps .now) (s .args .bap .now) (s .pre .1 .0 .0 .whole)),
     )
 

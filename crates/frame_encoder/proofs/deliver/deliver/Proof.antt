@@ -7,12 +7,13 @@ use borrow.Author.Needs.{needs}
 use Rattle.bits.specs.Bytes.{bytesFor}
 use Rattle.bits.specs.Refusal as refusal
 use Rattle.frame.specs.Answers.{gives}
-use Rattle.frame.specs.Body.{bodyBits, countsOf}
+use Rattle.frame.specs.AnswersLaws.{body-refused, body-accepted}
+use Rattle.frame.specs.Body.{bodyBits, countsOf, total}
 use Rattle.frame.specs.Layout.{channels}
-use Rattle.frame.specs.Theorems.{total, body-count}
+use Rattle.frame.specs.Theorems.{body-count}
 use Rattle.frame.specs.Under.{held-channels}
 use Rattle.frame_body.specs.Size.{counts-most}
-use Rattle.frame_encoder.specs.EncodeLaws.{left-refused, body-refused, left-accepted, body-accepted, room-short, room-there}
+use Rattle.frame_encoder.specs.EncodeLaws.{left-refused, left-accepted, room-short, room-there}
 use Rattle.frame_encoder.proofs.deliver.deliver.Statement.{statement}
 use Rattle.frame_encoder.proofs.deliver.deliver.Tie as tie
 

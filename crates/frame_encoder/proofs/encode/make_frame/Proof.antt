@@ -23,8 +23,8 @@ allocate-body-requires c κs =
     let u = s .pre .0 in
     (u, ((c .before .before .before .before .fill-exponents .kept .1 .1 .1 .1 .0 ∙ s .pre .1 .1 .0, s .pre .1 .1 .1), rw (c .before .before .before .before .fill-exponents .ensures) (expsOf-legal (s .args .sheet .now) (s .args .coeffs .now) (u .accepted) (s .pre .1 .0 .whole))))
 
-fill-codes-requires : tie.Need-fill-codes-requires
-fill-codes-requires c κs =
+code-frame-requires : tie.Need-code-frame-requires
+code-frame-requires c κs =
     let s = c .before .before .before .before .before .before .before .before .before .before .before .before .before .before .before .before .before in
     let u = s .pre .0 in
     (u, ((s .pre .1 .0, record { whole = whole s _ (c .before .before .before .before .before .before .before .before .before .before .fill-exponents .kept .1 .1 .1 .1 .0 ∙ s .pre .1 .1 .0); legal = rw (c .before .before .before .before .before .before .before .before .before .before .fill-exponents .ensures) (expsOf-legal (s .args .sheet .now) (s .args .coeffs .now) (u .accepted) (s .pre .1 .0 .whole)); is = c .before .before .before .before .before .allocate-body .ensures }), s .pre .1 .1 .2))
@@ -34,7 +34,7 @@ unfolding codesOf
 returns c =
     let e = c .before .before .before .before .before .before .before .before .before .before .before .before .before .fill-exponents .ensures in
     let a = rw e at (c .before .before .before .before .before .before .before .before .allocate-body .ensures) in
-    (e, (a, rw (e, a) at (c .before .before .fill-codes .ensures)))
+    (e, (a, rw (e, a) at (c .before .before .code-frame .ensures)))
 
 pub make-frame-spec : {M : Type 1} → statement M
 make-frame-spec =
@@ -42,7 +42,7 @@ make-frame-spec =
     (tie.spec
     fill-exponents-requires
     allocate-body-requires
-    fill-codes-requires
+    code-frame-requires
     (λ c. search needs)
     (λ c. search needs)
     (λ c. search needs)

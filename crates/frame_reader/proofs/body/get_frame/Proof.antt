@@ -1,13 +1,25 @@
 -- The rows are the fronts of two local arrays of 0.
-use Prim.Native.Nat.{_-_, _*_, _≤_}
-use mathlib.Core.Path.{_≡_, ap, _∙_}
+use Prim.Native.Nat.{ℕ, zero, suc, _-_, _*_, _≤_}
+use mathlib.Core.Path.{_≡_, refl, ap, _∙_}
+use mathlib.Core.List.{List, _∷_}
+use native.Mathlib.Nat.{not-suc-le-zero, le-of-suc-le-suc}
 use native.Mathlib.Omega.{arith}
 use borrow.Author.Needs.{needs}
-use lib.ListN.{length, length-replicate}
+use lib.ListN.{length, take, replicate, length-replicate}
+use Rattle.frame_rows.specs.Rows.{noRow}
 use Rattle.frame_rows.specs.RowsLaws.{length-noRow, held-most}
-use Rattle.frame_reader.proofs.Clearing.{row-front}
 use Rattle.frame_reader.proofs.body.get_frame.Statement.{statement}
 use Rattle.frame_reader.proofs.body.get_frame.Tie as tie
+
+take-zeros : (n m : ℕ) → n ≤ m → _≡_ {A = List ℕ} (take n (replicate m 0)) (replicate n 0)
+take-zeros zero m h = refl
+take-zeros (suc n) zero h = absurd (not-suc-le-zero h)
+take-zeros (suc n) (suc m) h = ap (λ (l : List ℕ). 0 ∷ l) (take-zeros n m (le-of-suc-le-suc h))
+
+-- the front of a row of 0
+row-front : (n k : ℕ) (l : List ℕ) → l ≡ noRow → k ≡ n → n ≤ 1536 → take k l ≡ replicate n 0
+unfolding noRow
+row-front n k l e q h = rw (e, q) (take-zeros n 1536 h)
 
 part-row-end : tie.Need-part-row-end
 part-row-end c = omega (arith, ap length (c .before .no-row .ensures) ∙ length-noRow, held-most (c .before .before .before .before .before .before .before .before .pre .0))

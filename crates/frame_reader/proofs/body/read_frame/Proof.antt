@@ -1,11 +1,11 @@
--- What was read stands in the buffers, or a fault was met and they are cleared.
+-- What was read stands in the buffers, or a fault was met and they are filled with 0.
 use Prim.Native.Nat.{ℕ}
 use mathlib.Core.Path.{ap, _∙_}
 use borrow.Author.Needs.{needs}
 use lib.ListN.{length, replicate}
 use Rattle.bits.specs.Field.{bitsOf}
 use Rattle.frame.specs.Reader.{readFrame}
-use Rattle.frame_reader.specs.Reading.{expsOf, bapOf, codesOf}
+use Rattle.frame_reader.specs.Reading.{expsRead, bapRead, codesRead}
 use Rattle.frame_reader.proofs.Answers.{faulty-zero}
 use Rattle.frame_reader.proofs.body.read_frame.Statement.{statement}
 use Rattle.frame_reader.proofs.body.read_frame.Tie as tie
@@ -18,10 +18,10 @@ returns c =
     let outcome = readFrame (c .before .before .before .before .before .before .before .before .before .before .before .before .before .before .before .before .before .before .before .before .before .before .before .before .before .before .before .before .before .args .sheet .now) bits in (
       g .answer,
       (
-        c .before .before .before .before .before .before .before .before .before .before .clear .ensures ∙ ap (λ (n : ℕ). replicate n 0) (k .1 .1 .1 .1 .0) ∙ faulty-zero expsOf bits (length (c .before .before .before .before .before .before .before .before .before .before .before .before .before .before .before .before .before .before .before .before .before .before .before .before .before .before .before .before .before .args .exps .now)) outcome (g .answer) (c .before .before .before .before .before .before .before .before .before .before .before .before .if1 .taken),
+        c .before .before .before .before .before .before .before .before .before .before .fill .ensures ∙ ap (λ (n : ℕ). replicate n 0) (k .1 .1 .1 .1 .0) ∙ faulty-zero expsRead bits (length (c .before .before .before .before .before .before .before .before .before .before .before .before .before .before .before .before .before .before .before .before .before .before .before .before .before .before .before .before .before .args .exps .now)) outcome (g .answer) (c .before .before .before .before .before .before .before .before .before .before .before .before .if1 .taken),
         (
-          c .before .before .before .before .before .before .clear2 .ensures ∙ ap (λ (n : ℕ). replicate n 0) (k .1 .1 .1 .1 .1 .0) ∙ faulty-zero bapOf bits (length (c .before .before .before .before .before .before .before .before .before .before .before .before .before .before .before .before .before .before .before .before .before .before .before .before .before .before .before .before .before .args .bap .now)) outcome (g .answer) (c .before .before .before .before .before .before .before .before .before .before .before .before .if1 .taken),
-          c .before .before .clear-codes .ensures ∙ ap (λ (n : ℕ). replicate n 0) (k .1 .1 .1 .1 .1 .1 .0) ∙ faulty-zero codesOf bits (length (c .before .before .before .before .before .before .before .before .before .before .before .before .before .before .before .before .before .before .before .before .before .before .before .before .before .before .before .before .before .args .codes .now)) outcome (g .answer) (c .before .before .before .before .before .before .before .before .before .before .before .before .if1 .taken),
+          c .before .before .before .before .before .before .fill2 .ensures ∙ ap (λ (n : ℕ). replicate n 0) (k .1 .1 .1 .1 .1 .0) ∙ faulty-zero bapRead bits (length (c .before .before .before .before .before .before .before .before .before .before .before .before .before .before .before .before .before .before .before .before .before .before .before .before .before .before .before .before .before .args .bap .now)) outcome (g .answer) (c .before .before .before .before .before .before .before .before .before .before .before .before .if1 .taken),
+          c .before .before .fill-codes .ensures ∙ ap (λ (n : ℕ). replicate n 0) (k .1 .1 .1 .1 .1 .1 .0) ∙ faulty-zero codesRead bits (length (c .before .before .before .before .before .before .before .before .before .before .before .before .before .before .before .before .before .before .before .before .before .before .before .before .before .before .before .before .before .args .codes .now)) outcome (g .answer) (c .before .before .before .before .before .before .before .before .before .before .before .before .if1 .taken),
         ),
       ),
     )

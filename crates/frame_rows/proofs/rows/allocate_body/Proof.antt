@@ -1,20 +1,21 @@
 -- The rows before block b are allocated, and `row` holds what a reuse channel of block b keeps.
 use mathlib.Core.Path.{_≡_, refl, sym, ap, _∙_}
 use mathlib.Core.List.{_++_}
-use Prim.Native.Nat.{_+_, _*_, _-_, _≤_, _<_}
+use Prim.Native.Nat.{ℕ, _*_, _-_, _≤_, _<_}
 use native.Mathlib.Numerals.{add-one}
+use native.Mathlib.Nat.{sub-zero}
 use native.Mathlib.Omega.{arith}
-use lib.ListN.{length, take, drop, length-take, length-append, length-drop}
-use lib.Seq.{take-at}
+use lib.ListN.{length, take, drop, length-take}
 use borrow.Author.Needs.{needs}
 use Rattle.bits.specs.Parts.{joined}
-use Rattle.bits.specs.PartsLaws.{within, part-long, fill-start, fill-more, fill-length, fill-end}
+use Rattle.bits.specs.PartsLaws.{fill-start, fill-end}
 use Rattle.frame.specs.Body.{bapRow}
-use Rattle.frame.specs.Layout.{channels, rowOf}
+use Rattle.frame.specs.Layout.{rowOf}
 use Rattle.frame.specs.Under.{held-channels}
 use Rattle.frame_rows.specs.LegalLaws.{legal-low, kept-first, kept-next}
 use Rattle.frame_rows.specs.Rows.{bapsOf, KeptBap}
-use Rattle.frame_rows.specs.RowsLaws.{length-noRow, front-taken, row-lent, held-most}
+use Rattle.frame_rows.specs.RowsLaws.{length-noRow, back-length, back-whole, back-taken, row-lent, row-inside, held-most}
+use Rattle.frame_rows.specs.Walks.{lent-long, turn-length, turn-more}
 use Rattle.frame_rows.proofs.rows.allocate_body.Statement.{statement}
 use Rattle.frame_rows.proofs.rows.allocate_body.Tie as tie
 
@@ -29,88 +30,87 @@ mul-n c = omega (arith, held-most (c .before .before .before .before .pre .0))
 
 loop-holds : tie.Need-loop-holds Inv-loop μ-loop
 loop-holds c =
-    let u = c .before .before .before .before .before .pre .0 in
-    let long : length (c .before .before .before .before .before .args .exps .now) ≡ 256 * channels (c .before .before .before .before .before .args .sheet .now) * 6 = rw (held-channels u) at (c .before .before .before .before .before .pre .1 .0 .0) in (
+    let g = c .before .before .before .before .before .args in
+    let p = c .before .before .before .before .before .pre in
+    let long = rw (held-channels (p .0)) at (p .1 .0 .0) in (
       search needs,
       refl,
       ap length (c .no-row .ensures) ∙ length-noRow,
-      (λ l. kept-first (c .before .before .before .before .before .args .sheet .now) (c .before .before .before .before .before .args .exps .now) (u .accepted) long (c .before .before .before .before .before .pre .1 .1) _),
-      fill-start 256 (256 * c .before .before .before .before .before .args .track .channels * 0) _ _ (omega arith),
+      (λ l. kept-first (g .sheet .now) (g .exps .now) (p .0 .accepted) long (p .1 .1) _),
+      fill-start 256 (256 * g .track .channels * 0) _ _ (omega arith),
     )
 
 mul-a : tie.Need-mul-a Inv-loop μ-loop
-mul-a c = omega (arith, held-most (c .before .before .before .before .before .before .before .pre .0), within (256 * c .before .before .before .before .before .before .before .args .track .channels) (c .before .loop .b) 6 (c .loop-test .taken))
+mul-a c = omega (arith, row-inside (c .before .before .before .before .before .before .before .pre .0) _ (c .loop-test .taken))
 
 add-e : tie.Need-add-e Inv-loop μ-loop
-add-e c = omega (arith, held-most (c .before .before .before .before .before .before .before .pre .0), within (256 * c .before .before .before .before .before .before .before .args .track .channels) (c .before .loop .b) 6 (c .loop-test .taken))
+add-e c = omega (arith, row-inside (c .before .before .before .before .before .before .before .pre .0) _ (c .loop-test .taken))
 
 part-allocate-row-end : tie.Need-part-allocate-row-end Inv-loop μ-loop
-part-allocate-row-end c = omega (arith, within (256 * c .before .before .before .before .before .before .before .args .track .channels) (c .before .loop .b) 6 (c .loop-test .taken))
+part-allocate-row-end c = omega (arith, row-inside (c .before .before .before .before .before .before .before .pre .0) _ (c .loop-test .taken))
 
 part-row-end : tie.Need-part-row-end Inv-loop μ-loop
 part-row-end c = omega (arith, held-most (c .before .before .before .before .before .before .before .before .pre .0), c .before .before .loop .inv .2)
 
 allocate-row-requires : tie.Need-allocate-row-requires Inv-loop μ-loop
 allocate-row-requires c κs =
-    let u = c .before .before .before .before .before .before .before .before .before .pre .0 in
-    let sheet = c .before .before .before .before .before .before .before .before .before .args .sheet .now in
-    let exps = c .before .before .before .before .before .before .before .before .before .args .exps .now in
-    let z = 256 * c .before .before .before .before .before .before .before .before .before .args .track .channels in
+    let g = c .before .before .before .before .before .before .before .before .before .args in
+    let p = c .before .before .before .before .before .before .before .before .before .pre in
+    let u = p .0 in
+    let z = 256 * g .track .channels in
     let b = c .before .before .before .loop .b in
-    let a = z * b in
-    let k : a + z - a ≡ z = omega arith in
-    let j : z - 0 ≡ z = omega arith in
-    let i : a + z ≤ z * 6 = within z b 6 (c .before .before .loop-test .taken) in
-    let long : length exps ≡ 256 * channels sheet * 6 = rw (held-channels u) at (c .before .before .before .before .before .before .before .before .before .pre .1 .0 .0) in
-    let e = row-lent u b a (a + z - a) exps refl k in
-    (u, ((c .before .before .loop-test .taken, part-long z b a (a + z - a) exps refl k (omega arith), rw length-take (omega (arith, held-most u, c .before .before .before .loop .inv .2))), (rw e (legal-low sheet exps (u .accepted) long (c .before .before .before .before .before .before .before .before .before .pre .1 .1) b (c .before .before .loop-test .taken)), rw (e, j) (c .before .before .before .loop .inv .3 (c .before .before .loop-test .taken)))))
+    let inside = c .before .before .loop-test .taken in
+    let exps = g .exps .now in
+    let e = row-lent u b exps in
+    let long = rw (held-channels u) at (p .1 .0 .0) in
+    let low = legal-low (g .sheet .now) exps (u .accepted) long (p .1 .1) b inside in
+    (u, ((inside, lent-long z 6 b inside exps (p .1 .0 .0), rw length-take (omega (arith, held-most u, c .before .before .before .loop .inv .2))), (rw e low, rw (e, sub-zero z) (c .before .before .before .loop .inv .3 inside))))
 
 part-copy-end : tie.Need-part-copy-end Inv-loop μ-loop
 part-copy-end c =
     let z = 256 * c .before .before .before .before .before .before .before .before .before .before .before .before .args .track .channels in
-    let y = c .before .before .allocate-row .last .1 .1 .1 .1 .1 .0 in
-    let n : length y ≡ z = c .before .before .allocate-row .kept .1 .1 .1 .1 .1 .0 ∙ rw length-take (omega (arith, held-most (c .before .before .before .before .before .before .before .before .before .before .before .before .pre .0), c .before .before .before .before .before .before .loop .inv .2)) in
-    let g : z ≤ length (y ++ drop (z - 0) (c .before .before .before .before .before .before .loop .row)) = rw length-append (omega (arith, n)) in
-    g
+    let fits : z ≤ length (c .before .before .before .before .before .before .loop .row) = omega (arith, held-most (c .before .before .before .before .before .before .before .before .before .before .before .before .pre .0), c .before .before .before .before .before .before .loop .inv .2) in
+    omega (arith, fits, back-whole z (c .before .before .before .before .before .before .loop .row) (c .before .before .allocate-row .last .1 .1 .1 .1 .1 .0) fits (c .before .before .allocate-row .kept .1 .1 .1 .1 .1 .0))
 
 part-copy-end-2 : tie.Need-part-copy-end-2 Inv-loop μ-loop
-part-copy-end-2 c = omega (arith, c .before .before .before .before .before .before .before .loop .inv .1, within (256 * c .before .before .before .before .before .before .before .before .before .before .before .before .before .args .track .channels) (c .before .before .before .before .before .before .before .loop .b) 6 (c .before .before .before .before .before .before .loop-test .taken))
+part-copy-end-2 c = omega (arith, c .before .before .before .before .before .before .before .loop .inv .1, row-inside (c .before .before .before .before .before .before .before .before .before .before .before .before .before .pre .0) _ (c .before .before .before .before .before .before .loop-test .taken))
 
 copy-requires : tie.Need-copy-requires Inv-loop μ-loop
 copy-requires c κs =
     let z = 256 * c .before .before .before .before .before .before .before .before .before .before .before .before .before .before .args .track .channels in
-    let b = c .before .before .before .before .before .before .before .before .loop .b in
-    let a = z * b in
-    let k : a + z - a ≡ z = omega arith in
-    let i : a + z ≤ z * 6 = within z b 6 (c .before .before .before .before .before .before .before .loop-test .taken) in
+    let row = c .before .before .before .before .before .before .before .before .loop .row in
     let y = c .before .before .before .before .allocate-row .last .1 .1 .1 .1 .1 .0 in
-    let n : length y ≡ z = c .before .before .before .before .allocate-row .kept .1 .1 .1 .1 .1 .0 ∙ rw length-take (omega (arith, held-most (c .before .before .before .before .before .before .before .before .before .before .before .before .before .before .pre .0), c .before .before .before .before .before .before .before .before .loop .inv .2)) in
-    ap length (front-taken z (z - 0) (c .before .before .before .before .before .before .before .before .loop .row) y (omega arith) n) ∙ n ∙ sym (part-long z b a (a + z - a) (c .before .before .before .before .before .before .before .before .loop .bap) refl k (omega arith))
+    let kept = c .before .before .before .before .allocate-row .kept .1 .1 .1 .1 .1 .0 in
+    let fits : z ≤ length row = omega (arith, held-most (c .before .before .before .before .before .before .before .before .before .before .before .before .before .before .pre .0), c .before .before .before .before .before .before .before .before .loop .inv .2) in
+    let lent = lent-long z 6 (c .before .before .before .before .before .before .before .before .loop .b) (c .before .before .before .before .before .before .before .loop-test .taken) (c .before .before .before .before .before .before .before .before .loop .bap) (c .before .before .before .before .before .before .before .before .loop .inv .1 ∙ c .before .before .before .before .before .before .before .before .before .before .before .before .before .before .pre .1 .0 .1) in
+    ap length (back-taken z row y fits kept) ∙ back-length z row y fits kept ∙ sym lent
 
 loop-again : tie.Need-loop-again Inv-loop μ-loop
 loop-again c =
-    let u = c .before .before .before .before .before .before .before .before .before .before .before .before .before .before .before .before .before .pre .0 in
-    let sheet = c .before .before .before .before .before .before .before .before .before .before .before .before .before .before .before .before .before .args .sheet .now in
-    let exps = c .before .before .before .before .before .before .before .before .before .before .before .before .before .before .before .before .before .args .exps .now in
-    let z = 256 * c .before .before .before .before .before .before .before .before .before .before .before .before .before .before .before .before .before .args .track .channels in
+    let g = c .before .before .before .before .before .before .before .before .before .before .before .before .before .before .before .before .before .args in
+    let p = c .before .before .before .before .before .before .before .before .before .before .before .before .before .before .before .before .before .pre in
+    let u = p .0 in
+    let z = 256 * g .track .channels in
     let b = c .before .before .before .before .before .before .before .before .before .before .before .loop .b in
-    let a = z * b in
-    let k : a + z - a ≡ z = omega arith in
-    let i : a + z ≤ z * 6 = within z b 6 (c .before .before .before .before .before .before .before .before .before .before .loop-test .taken) in
-    let long : length exps ≡ 256 * channels sheet * 6 = rw (held-channels u) at (c .before .before .before .before .before .before .before .before .before .before .before .before .before .before .before .before .before .pre .1 .0 .0) in
+    let inside = c .before .before .before .before .before .before .before .before .before .before .loop-test .taken in
+    let exps = g .exps .now in
+    let bap = c .before .before .before .before .before .before .before .before .before .before .before .loop .bap in
+    let row = c .before .before .before .before .before .before .before .before .before .before .before .loop .row in
     let y = c .before .before .before .before .before .before .before .allocate-row .last .1 .1 .1 .1 .1 .0 in
-    let n : length y ≡ z = c .before .before .before .before .before .before .before .allocate-row .kept .1 .1 .1 .1 .1 .0 ∙ rw length-take (omega (arith, held-most u, c .before .before .before .before .before .before .before .before .before .before .before .loop .inv .2)) in
-    let is : y ≡ bapRow sheet (rowOf sheet b exps) = c .before .before .before .before .before .before .before .allocate-row .ensures ∙ ap (bapRow sheet) (row-lent u b a (a + z - a) exps refl k) in
+    let back = c .before .before .before .before .before .before .before .allocate-row .kept .1 .1 .1 .1 .1 .0 in
+    let fits : z ≤ length row = omega (arith, held-most u, c .before .before .before .before .before .before .before .before .before .before .before .loop .inv .2) in
+    let is = c .before .before .before .before .before .before .before .allocate-row .ensures ∙ ap (bapRow (g .sheet .now)) (row-lent u b exps) in
+    let front = ap (λ (k : ℕ). take k (y ++ drop (z - 0) row)) (sym (sub-zero z)) ∙ back-taken z row y fits back ∙ is in
     let x = c .before .before .copy .last .1 .0 in
-    let same : x ≡ y = c .before .before .copy .ensures ∙ front-taken z (z - 0) (c .before .before .before .before .before .before .before .before .before .before .before .loop .row) y (omega arith) n in
-    let h : z * b + z ≤ length (c .before .before .before .before .before .before .before .before .before .before .before .loop .bap) = omega (arith, i, c .before .before .before .before .before .before .before .before .before .before .before .loop .inv .1, c .before .before .before .before .before .before .before .before .before .before .before .before .before .before .before .before .before .pre .1 .0 .1) in
-    let row : length (y ++ drop (z - 0) (c .before .before .before .before .before .before .before .before .before .before .before .loop .row)) ≡ 1536 = rw (length-append, length-drop) (omega (arith, c .before .before .before .before .before .before .before .before .before .before .before .loop .inv .2, n, held-most u)) in
-    let front : take z (y ++ drop (z - 0) (c .before .before .before .before .before .before .before .before .before .before .before .loop .row)) ≡ bapRow sheet (rowOf sheet b exps) = take-at y (drop (z - 0) (c .before .before .before .before .before .before .before .before .before .before .before .loop .row)) z n ∙ is in (
-      omega (arith, c .before .before .before .before .before .before .before .before .before .before .loop-test .taken),
-      fill-length z b a (a + z - a) (c .before .before .before .before .before .before .before .before .before .before .before .loop .bap) x refl k h (ap length same ∙ n) ∙ c .before .before .before .before .before .before .before .before .before .before .before .loop .inv .1,
-      row,
-      (λ l. rw (add-one b, front) (kept-next sheet exps (u .accepted) long (c .before .before .before .before .before .before .before .before .before .before .before .before .before .before .before .before .before .pre .1 .1) b (omega (arith, l)))),
-      fill-more z b a (a + z - a) _ (c .before .before .before .before .before .before .before .before .before .before .before .loop .bap) x refl k h (ap length same ∙ n) (c .before .before .before .before .before .before .before .before .before .before .before .loop .inv .4) (same ∙ is),
+    let kept = c .before .before .copy .kept .1 .0 in
+    let same = c .before .before .copy .ensures ∙ back-taken z row y fits back in
+    let long = rw (held-channels u) at (p .1 .0 .0) in
+    let whole = c .before .before .before .before .before .before .before .before .before .before .before .loop .inv .1 ∙ p .1 .0 .1 in (
+      omega (arith, inside),
+      turn-length z 6 b inside bap x whole kept ∙ c .before .before .before .before .before .before .before .before .before .before .before .loop .inv .1,
+      back-whole z row y fits back ∙ c .before .before .before .before .before .before .before .before .before .before .before .loop .inv .2,
+      (λ l. rw (add-one b, front) (kept-next (g .sheet .now) exps (u .accepted) long (p .1 .1) b (omega (arith, l)))),
+      turn-more z 6 b inside bap x whole kept _ (c .before .before .before .before .before .before .before .before .before .before .before .loop .inv .4) (same ∙ is),
     )
 
 same-length : tie.Need-same-length Inv-loop μ-loop

@@ -11,21 +11,24 @@ returns c = c .before .before .before .before .pre .1 .1 .kept (c .if1 .taken)
 
 allocate-requires : tie.Need-allocate-requires
 allocate-requires c κs =
-    let sheet = c .before .before .before .before .before .before .before .args .sheet .now in
-    let known = channel-known sheet (c .before .before .before .before .before .before .before .pre .0) (c .before .before .before .before .before .before .before .args .c) (c .before .before .before .before .before .before .before .pre .1 .1 .there) in (
+    let g = c .before .before .before .before .before .before .before .args in
+    let p = c .before .before .before .before .before .before .before .pre in
+    let known = channel-known (g .sheet .now) (p .0) (g .c) (p .1 .1 .there) in (
       rw (c .before .before .common-of .ensures, c .before .record-of .ensures) (known .codes),
       record {
-        legal = rw (c .before .before .before .before .before .before .before .pre .1 .0 .0) (known .legal);
-        held = omega (arith, known .end-most, c .before .before .before .before .before .before .before .pre .1 .0 .0, c .before .before .before .before .before .before .before .pre .1 .0 .1);
-        most = λ bin l. c .before .before .before .before .before .before .before .pre .1 .1 .low bin (omega (arith, l, c .before .before .before .before .before .before .before .pre .1 .0 .0));
-        room = omega (arith, known .end-most, c .before .before .before .before .before .before .before .pre .1 .0 .0, c .before .before .before .before .before .before .before .pre .1 .0 .2);
-        short = omega (arith, c .before .before .before .before .before .before .before .pre .1 .0 .2);
+        legal = rw (p .1 .0 .0) (known .legal);
+        held = omega (arith, known .end-most, p .1 .0 .0, p .1 .0 .1);
+        most = λ bin l. p .1 .1 .low bin (omega (arith, l, p .1 .0 .0));
+        room = omega (arith, known .end-most, p .1 .0 .0, p .1 .0 .2);
+        short = omega (arith, p .1 .0 .2);
       },
     )
 
 returns-2 : tie.Need-returns-2
 unfolding bapPart
-returns-2 c = rw (c .before .before .before .before .before .common-of .ensures, c .before .before .before .before .record-of .ensures, c .before .before .before .before .before .before .before .before .before .before .pre .1 .0 .0, c .before .before .before .before .before .before .before .before .before .before .pre .1 .0 .2) at (c .before .before .allocate .ensures)
+returns-2 c =
+    let p = c .before .before .before .before .before .before .before .before .before .before .pre in
+    rw (c .before .before .before .before .before .common-of .ensures, c .before .before .before .before .record-of .ensures, p .1 .0 .0, p .1 .0 .2) at (c .before .before .allocate .ensures)
 
 pub allocate-part-spec : {M : Type 1} → statement M
 allocate-part-spec =

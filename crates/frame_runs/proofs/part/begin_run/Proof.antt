@@ -7,7 +7,7 @@ use borrow.Author.Needs.{needs}
 use Rattle.frame.specs.Under.{held-channels, held-end, channel-known}
 use Rattle.frame_rows.specs.RowsLaws.{held-most}
 use Rattle.frame_runs.specs.Runs.{runPart}
-use Rattle.frame_runs.specs.TwoParts.{front-long, two-parts-long, two-parts}
+use Rattle.frame_runs.specs.TwoPartsLaws.{front-long, two-parts-long, two-parts}
 use Rattle.frame_runs.proofs.part.begin_run.Statement.{statement}
 use Rattle.frame_runs.proofs.part.begin_run.Tie as tie
 
@@ -29,14 +29,14 @@ part-run-exponents-end c = omega (arith, held (c .before .before .before .before
 run-exponents-requires : tie.Need-run-exponents-requires
 run-exponents-requires c κs = (c .before .before .before .before .before .pre .0, (c .before .before .before .before .before .pre .1 .0, (c .before .before .before .before .before .pre .1 .1 .0, c .before .before .before .before .before .pre .1 .1 .1, front (c .before .before .before .before .before) ∙ held-end (c .before .before .before .before .before .pre .0) (c .before .before .before .before .before .args .c))))
 
-sub-clear : tie.Need-sub-clear
-sub-clear c = held (c .before .before .before .before .before .before .before .before)
+sub-fill : tie.Need-sub-fill
+sub-fill c = held (c .before .before .before .before .before .before .before .before)
 
-part-clear-start : tie.Need-part-clear-start
-part-clear-start c = held (c .before .before .before .before .before .before .before .before)
+part-fill-start : tie.Need-part-fill-start
+part-fill-start c = held (c .before .before .before .before .before .before .before .before)
 
-part-clear-end : tie.Need-part-clear-end
-part-clear-end c =
+part-fill-end : tie.Need-part-fill-end
+part-fill-end c =
     let s = c .before .before .before .before .before .before .before .before in
     let y = c .before .before .run-exponents .last .1 .1 .1 .1 .1 .1 .0 in
     let n : length y ≡ end s = c .before .before .run-exponents .kept .1 .1 .1 .1 .1 .1 .0 ∙ front s in
@@ -47,7 +47,7 @@ same-length c =
     let s = c .before .before .before .before .before .before .before .before .before .before .before .before in
     let y = c .before .before .before .before .before .before .run-exponents .last .1 .1 .1 .1 .1 .1 .0 in
     let n : length y ≡ end s = c .before .before .before .before .before .before .run-exponents .kept .1 .1 .1 .1 .1 .1 .0 ∙ front s in
-    two-parts-long (end s) (s .args .part .now) y (s .pre .1 .1 .2) (held s) n _ (c .before .before .clear .ensures) ∙ sym (s .pre .1 .1 .2)
+    two-parts-long (end s) (s .args .part .now) y (s .pre .1 .1 .2) (held s) n _ (c .before .before .fill .ensures) ∙ sym (s .pre .1 .1 .2)
 
 returns : tie.Need-returns
 unfolding runPart
@@ -55,7 +55,7 @@ returns c =
     let s = c .before .before .before .before .before .before .before .before .before .before .before .before in
     let y = c .before .before .before .before .before .before .run-exponents .last .1 .1 .1 .1 .1 .1 .0 in
     let n : length y ≡ end s = c .before .before .before .before .before .before .run-exponents .kept .1 .1 .1 .1 .1 .1 .0 ∙ front s in
-    two-parts (end s) (s .args .part .now) y (s .pre .1 .1 .2) (held s) n _ (c .before .before .clear .ensures) ∙ rw (c .before .before .before .before .before .before .run-exponents .ensures, held-end (s .pre .0) (s .args .c))
+    two-parts (end s) (s .args .part .now) y (s .pre .1 .1 .2) (held s) n _ (c .before .before .fill .ensures) ∙ rw (c .before .before .before .before .before .before .run-exponents .ensures, held-end (s .pre .0) (s .args .c))
 
 pub begin-run-spec : {M : Type 1} → statement M
 begin-run-spec =
@@ -67,9 +67,9 @@ begin-run-spec =
     (λ c. search needs)
     part-run-exponents-end
     run-exponents-requires
-    sub-clear
-    part-clear-start
-    part-clear-end
+    sub-fill
+    part-fill-start
+    part-fill-end
     (λ c κs. search needs)
     same-length
     returns)

@@ -7,10 +7,10 @@ use lib.ListN.{length, take, drop, length-take, length-append, length-drop}
 use lib.Seq.{take-at}
 use borrow.Author.Needs.{needs}
 use Rattle.bits.specs.Parts.{joined}
-use Rattle.bits.specs.PartsLaws.{within, part-long, fill-start, fill-more, fill-length, fill-end}
+use Rattle.bits.specs.PartsLaws.{within, part-long, fill-start, fill-more, fill-length, fill-end, front-taken}
 use Rattle.frame.specs.Layout.{channels}
 use Rattle.frame.specs.Under.{held-channels}
-use Rattle.frame_rows.specs.RowsLaws.{length-noRow, front-taken, held-most}
+use Rattle.frame_rows.specs.RowsLaws.{length-noRow, held-most}
 use Rattle.frame_runs.specs.Carried.{rowAt, rowBefore}
 use Rattle.frame_runs.specs.CarriedLaws.{carried-first, carried-on}
 use Rattle.frame_runs.specs.Runs.{expsOf, framed}

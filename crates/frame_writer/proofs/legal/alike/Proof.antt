@@ -4,7 +4,8 @@ use Prim.Native.Nat.{_-_, _≤_}
 use native.Mathlib.Omega.{arith}
 use lib.ListN.{length}
 use Rattle.frame.specs.Legal.{alike}
-use Rattle.frame_writer.specs.Tests.{alikeFrom, alike-start, alike-next, alike-differs, alike-end}
+use Rattle.frame_writer.specs.Tests.{alikeFrom}
+use Rattle.frame_writer.specs.TestsLaws.{alike-start, alike-next, alike-differs, alike-end}
 use Rattle.frame_writer.proofs.legal.alike.Statement.{statement}
 use Rattle.frame_writer.proofs.legal.alike.Tie as tie
 

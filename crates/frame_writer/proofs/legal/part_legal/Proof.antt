@@ -5,7 +5,7 @@ use native.Mathlib.Omega.{arith}
 use lib.ListN.{length-take}
 use borrow.Author.Needs.{needs}
 use Rattle.frame.specs.Legal.{alike}
-use Rattle.frame_writer.specs.Tests.{part-reuse, part-new, span-least}
+use Rattle.frame_writer.specs.TestsLaws.{part-reuse, part-new, span-least}
 use Rattle.frame_writer.proofs.legal.part_legal.Statement.{statement}
 use Rattle.frame_writer.proofs.legal.part_legal.Tie as tie
 

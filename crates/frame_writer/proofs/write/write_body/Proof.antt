@@ -1,7 +1,8 @@
 -- The sheet's number, or the work under an accepted sheet.
 use mathlib.Core.Path.{sym, _∙_}
 use borrow.Author.Needs.{needs}
-use Rattle.frame_writer.specs.Answers.{write-sheet, left-refused}
+use Rattle.frame.specs.AnswersLaws.{body-refused}
+use Rattle.frame_writer.specs.AnswersLaws.{write-sheet}
 use Rattle.frame_writer.proofs.write.write_body.Statement.{statement}
 use Rattle.frame_writer.proofs.write.write_body.Tie as tie
 
@@ -9,7 +10,7 @@ returns : tie.Need-returns
 returns c =
     let n = c .before .before .check-sheet .ensures in
     let e = c .refused .ensures in
-    ((rw n at e) ∙ write-sheet _ _ _ _ (λ h. c .before .if1 .taken (n ∙ h)), left-refused _ _ e (c .before .if1 .taken))
+    ((rw n at e) ∙ write-sheet _ _ _ _ (λ h. c .before .if1 .taken (n ∙ h)), body-refused _ _ _ _ e (c .before .if1 .taken))
 
 write-under-requires : tie.Need-write-under-requires
 write-under-requires c κs = record { accepted = sym (c .before .before .before .before .check-sheet .ensures) ∙ c .before .before .before .if1 .left; by-value = c .before .before .track-of .ensures; table = c .before .strategies-of .ensures }

@@ -3,9 +3,10 @@ use mathlib.Core.Path.{sym, ap, _∙_}
 use native.Mathlib.Omega.{arith}
 use borrow.Author.Needs.{needs}
 use Rattle.sheet.specs.Layout.{bufferLength}
+use Rattle.frame.specs.AnswersLaws.{body-refused}
 use Rattle.frame.specs.Under.{held-channels}
 use Rattle.frame_rows.specs.RowsLaws.{held-most}
-use Rattle.frame_writer.specs.Answers.{write-exps-length, write-codes-length, left-refused}
+use Rattle.frame_writer.specs.AnswersLaws.{write-exps-length, write-codes-length}
 use Rattle.frame_writer.proofs.write.write_under.Statement.{statement}
 use Rattle.frame_writer.proofs.write.write_under.Tie as tie
 
@@ -16,13 +17,13 @@ returns : tie.Need-returns
 returns c =
     let n = c .before .before .buffer-length .ensures ∙ ap bufferLength (held-channels (c .before .before .before .before .before .before .before .pre)) in
     let e = c .refused .ensures in
-    (e ∙ write-exps-length _ _ _ _ (c .before .before .before .before .before .before .before .pre .accepted) (λ h. c .before .if1 .taken (h ∙ sym n)), left-refused _ _ e (λ z. omega arith))
+    (e ∙ write-exps-length _ _ _ _ (c .before .before .before .before .before .before .before .pre .accepted) (λ h. c .before .if1 .taken (h ∙ sym n)), body-refused _ _ _ _ e (λ z. omega arith))
 
 returns-2 : tie.Need-returns-2
 returns-2 c =
     let n = c .before .before .before .buffer-length .ensures ∙ ap bufferLength (held-channels (c .before .before .before .before .before .before .before .before .pre)) in
     let e = c .refused2 .ensures in
-    (e ∙ write-codes-length _ _ _ _ (c .before .before .before .before .before .before .before .before .pre .accepted) (c .before .before .if1 .left ∙ n) (λ h. c .before .if2 .taken (h ∙ sym n)), left-refused _ _ e (λ z. omega arith))
+    (e ∙ write-codes-length _ _ _ _ (c .before .before .before .before .before .before .before .before .pre .accepted) (c .before .before .if1 .left ∙ n) (λ h. c .before .if2 .taken (h ∙ sym n)), body-refused _ _ _ _ e (λ z. omega arith))
 
 write-sized-requires : tie.Need-write-sized-requires
 write-sized-requires c κs =

@@ -7,37 +7,16 @@ use Rattle.host.specs.EntriesLaws.{allocation-sheet, allocation-channel,
 use Rattle.host.proofs.allocation_entry.ac3_compute_bap.Statement.{statement}
 use Rattle.host.proofs.allocation_entry.ac3_compute_bap.Tie as tie
 
-check-sheet-requires : tie.Need-check-sheet-requires
-check-sheet-requires c κs = search needs
-
 returns : tie.Need-returns
 returns c =
     let e = c .before .check-sheet .ensures in
     let r = allocation-sheet _ (c .before .before .before .before .before .args .channel) (c .before .before .before .before .before .args .exp .now) (c .before .before .before .before .before .args .bap .now) (λ q. c .if1 .taken (e ∙ q)) in
     (e ∙ r .0, r .1)
 
-common-of-requires : tie.Need-common-of-requires
-common-of-requires c κs = search needs
-
-channels-of-requires : tie.Need-channels-of-requires
-channels-of-requires c κs = search needs
-
 returns-2 : tie.Need-returns-2
 returns-2 c =
     let channels = c .before .channels-of .ensures ∙ ap channelsOf (c .before .before .common-of .ensures) in
     allocation-channel _ _ _ _ (sym (c .before .before .before .before .check-sheet .ensures) ∙ c .before .before .before .if1 .left) (omega (arith, channels, c .if2 .taken))
-
-record-of-requires : tie.Need-record-of-requires
-record-of-requires c κs = search needs
-
-cast-compute-bap : tie.Need-cast-compute-bap
-cast-compute-bap c = search needs
-
-compute-bap-requires : tie.Need-compute-bap-requires
-compute-bap-requires c κs = search needs
-
-same-length : tie.Need-same-length
-same-length c = search needs
 
 returns-3 : tie.Need-returns-3
 returns-3 c =
@@ -49,13 +28,13 @@ pub ac3-compute-bap-spec : {M : Type 1} → statement M
 ac3-compute-bap-spec =
     tie.close
     (tie.spec
-    check-sheet-requires
+    (λ c κs. search needs)
     returns
-    common-of-requires
-    channels-of-requires
+    (λ c κs. search needs)
+    (λ c κs. search needs)
     returns-2
-    record-of-requires
-    cast-compute-bap
-    compute-bap-requires
-    same-length
+    (λ c κs. search needs)
+    (λ c. search needs)
+    (λ c κs. search needs)
+    (λ c. search needs)
     returns-3)

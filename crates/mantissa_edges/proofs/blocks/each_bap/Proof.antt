@@ -10,33 +10,15 @@ Inv-loop bap₀ bap = bap ≤ 17
 abbrev μ-loop : tie.MeasureT-loop
 μ-loop bap₀ bap = 17 - bap
 
-loop-holds : tie.Need-loop-holds Inv-loop μ-loop
-loop-holds c = search needs
-
-in-each-channel-requires : tie.Need-in-each-channel-requires Inv-loop μ-loop
-in-each-channel-requires c κs = search needs
-
-add-bap : tie.Need-add-bap Inv-loop μ-loop
-add-bap c = search needs
-
-loop-less : tie.Need-loop-less Inv-loop μ-loop
-loop-less c = search needs
-
-loop-again : tie.Need-loop-again Inv-loop μ-loop
-loop-again c = search needs
-
-returns : tie.Need-returns Inv-loop μ-loop
-returns c = search needs
-
 pub each-bap-spec : {M : Type 1} → statement M
 each-bap-spec =
     tie.close
     (tie.spec
     Inv-loop
     μ-loop
-    loop-holds
-    in-each-channel-requires
-    add-bap
-    loop-less
-    loop-again
-    returns)
+    (λ c. search needs)
+    (λ c κs. search needs)
+    (λ c. search needs)
+    (λ c. search needs)
+    (λ c. search needs)
+    (λ c. search needs))

@@ -12,29 +12,11 @@ Inv-loop bap₀ end below beyond i₀ i-end bap i = (i-end ≡ length bap₀) ×
 abbrev μ-loop : tie.MeasureT-loop
 μ-loop bap₀ end below beyond i₀ i-end bap i = i-end - i
 
-loop-holds : tie.Need-loop-holds Inv-loop μ-loop
-loop-holds c = search needs
-
-bap-at-requires : tie.Need-bap-at-requires Inv-loop μ-loop
-bap-at-requires c κs = search needs
-
-slice-write-bap : tie.Need-slice-write-bap Inv-loop μ-loop
-slice-write-bap c = search needs
-
-add-i : tie.Need-add-i Inv-loop μ-loop
-add-i c = search needs
-
-loop-less : tie.Need-loop-less Inv-loop μ-loop
-loop-less c = search needs
-
 loop-again : tie.Need-loop-again Inv-loop μ-loop
 loop-again c = (search needs, search needs, search needs)
 
 same-length : tie.Need-same-length Inv-loop μ-loop
 same-length c = c .before .loop .inv .2
-
-returns : tie.Need-returns Inv-loop μ-loop
-returns c = search needs
 
 pub fill-spec : {M : Type 1} → statement M
 fill-spec =
@@ -42,11 +24,11 @@ fill-spec =
     (tie.spec
     Inv-loop
     μ-loop
-    loop-holds
-    bap-at-requires
-    slice-write-bap
-    add-i
-    loop-less
+    (λ c. search needs)
+    (λ c κs. search needs)
+    (λ c. search needs)
+    (λ c. search needs)
+    (λ c. search needs)
     loop-again
     same-length
-    returns)
+    (λ c. search needs))

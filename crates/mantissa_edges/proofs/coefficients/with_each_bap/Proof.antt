@@ -10,25 +10,7 @@ Inv-loop pattern bap₀ bap = bap ≤ 17
 abbrev μ-loop : tie.MeasureT-loop
 μ-loop pattern bap₀ bap = 17 - bap
 
-loop-holds : tie.Need-loop-holds Inv-loop μ-loop
-loop-holds c = search needs
-
-code-requires : tie.Need-code-requires Inv-loop μ-loop
-code-requires c κs = search needs
-
-add-bap : tie.Need-add-bap Inv-loop μ-loop
-add-bap c = search needs
-
-loop-less : tie.Need-loop-less Inv-loop μ-loop
-loop-less c = search needs
-
-loop-again : tie.Need-loop-again Inv-loop μ-loop
-loop-again c = search needs
-
-returns : tie.Need-returns Inv-loop μ-loop
-returns c = search needs
-
 pub with-each-bap-spec : {M : Type 1} → statement M
 with-each-bap-spec =
     tie.close
-    (tie.spec Inv-loop μ-loop loop-holds code-requires add-bap loop-less loop-again returns)
+    (tie.spec Inv-loop μ-loop (λ c. search needs) (λ c κs. search needs) (λ c. search needs) (λ c. search needs) (λ c. search needs) (λ c. search needs))

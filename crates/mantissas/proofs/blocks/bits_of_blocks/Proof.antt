@@ -1,6 +1,7 @@
 -- Each way out in the order of the refusals: laws of Answers.antt.
 use mathlib.Core.Path.{sym, _∙_}
 use borrow.Author.Needs.{needs}
+use Rattle.bits.specs.Tests.{passed, failed}
 use Rattle.mantissas.specs.CodedLaws.{baps-true}
 use Rattle.mantissas.proofs.Answers as answers
 use Rattle.mantissas.proofs.blocks.bits_of_blocks.Statement.{statement}
@@ -14,15 +15,15 @@ check-blocks-requires c κs = (c .before .before .before .pre, c .if1 .left ∙ 
 
 returns-2 : tie.Need-returns-2
 returns-2 c =
-    c .no-bits2 .ensures ∙ answers.blocks-bad _ _ _ (c .before .before .before .if1 .left ∙ c .before .before .before .before .buffer-length .ensures) (answers.failed (c .before .before .check-blocks .ensures) (c .before .if2 .taken))
+    c .no-bits2 .ensures ∙ answers.blocks-bad _ _ _ (c .before .before .before .if1 .left ∙ c .before .before .before .before .buffer-length .ensures) (failed (c .before .before .check-blocks .ensures) (c .before .if2 .taken))
 
 count-blocks-requires : tie.Need-count-blocks-requires
 count-blocks-requires c κs =
-    (c .before .before .before .before .before .pre, (c .before .before .if1 .left ∙ c .before .before .before .buffer-length .ensures, baps-true _ (answers.passed (c .before .check-blocks .ensures) (c .if2 .left))))
+    (c .before .before .before .before .before .pre, (c .before .before .if1 .left ∙ c .before .before .before .buffer-length .ensures, baps-true _ (passed (c .before .check-blocks .ensures) (c .if2 .left))))
 
 returns-3 : tie.Need-returns-3
 returns-3 c =
-    answers.blocks-done _ _ _ _ (c .before .before .before .if1 .left ∙ c .before .before .before .before .buffer-length .ensures) (answers.passed (c .before .before .check-blocks .ensures) (c .before .if2 .left)) (c .count-blocks .ensures)
+    answers.blocks-done _ _ _ _ (c .before .before .before .if1 .left ∙ c .before .before .before .before .buffer-length .ensures) (passed (c .before .before .check-blocks .ensures) (c .before .if2 .left)) (c .count-blocks .ensures)
 
 pub bits-of-blocks-spec : {M : Type 1} → statement M
 bits-of-blocks-spec =

@@ -5,7 +5,8 @@ use lib.ListN.{replicate}
 use borrow.Author.Needs.{needs}
 use Rattle.bits.specs.Parts.{joined}
 use Rattle.mantissas.specs.Blocks.{partBaps}
-use Rattle.mantissas.specs.Inner.{CountsOn}
+use Rattle.mantissas.specs.Inner.{CountsOn, Started}
+use Rattle.mantissas.proofs.Arrays.{started-zeros}
 use Rattle.mantissas.proofs.Joining.{part-taken, part-fits, part-length, part-below, tally-start, tally-more, tally-block}
 use Rattle.mantissas.proofs.blocks.count_block.Statement.{statement}
 use Rattle.mantissas.proofs.blocks.count_block.Tie as tie
@@ -15,12 +16,13 @@ Inv-loop bap channels block ends left₀ total₀ c₀ left total c =
     CountsOn (joined c (partBaps channels ends bap block)) (replicate 16 0) (record { left = left; bits = total })
     × (c ≤ channels)
     × (total ≤ 4096 * c)
+    × Started left
 
 abbrev μ-loop : tie.MeasureT-loop
 μ-loop bap channels block ends left₀ total₀ c₀ left total c = channels - c
 
 loop-holds : tie.Need-loop-holds Inv-loop μ-loop
-loop-holds c = (tally-start _ _, omega arith, omega arith)
+loop-holds c = (tally-start _ _, omega arith, omega arith, started-zeros)
 
 add-e : tie.Need-add-e Inv-loop μ-loop
 add-e c = omega (arith, part-fits (c .before .before .before .before .args .bap .now) (c .part-start .ensures) (c .before .before .before .before .pre .0) (c .before .loop-test .taken) (c .before .before .before .before .pre .1 .0 .1))
@@ -33,19 +35,20 @@ count-part-requires c κs =
     let p = c .before .part-start .ensures in
     let e = c .before .before .before .before .before .pre .0 in
     let h = c .before .before .loop-test .taken in
-    (part-below _ p e h (c .before .before .before .before .before .pre .1 .1), omega (arith, part-length (c .before .before .before .before .before .args .bap .now) p e h))
+    (part-below _ p e h (c .before .before .before .before .before .pre .1 .1), (omega (arith, part-length (c .before .before .before .before .before .args .bap .now) p e h), c .before .before .before .loop .inv .3))
 
 add-total : tie.Need-add-total Inv-loop μ-loop
 add-total c =
-    omega (arith, c .before .before .count-part .ensures .most, part-length (c .before .before .before .before .before .before .before .before .args .bap .now) (c .before .before .before .before .part-start .ensures) (c .before .before .before .before .before .before .before .before .pre .0) (c .before .before .before .before .before .loop-test .taken))
+    omega (arith, c .before .before .count-part .ensures .0 .most, part-length (c .before .before .before .before .before .before .before .before .args .bap .now) (c .before .before .before .before .part-start .ensures) (c .before .before .before .before .before .before .before .before .pre .0) (c .before .before .before .before .before .loop-test .taken))
 
 loop-again : tie.Need-loop-again Inv-loop μ-loop
 loop-again c =
     let p = c .before .before .before .before .part-start .ensures in
-    let d = c .before .before .count-part .ensures in (
+    let d = c .before .before .count-part .ensures .0 in (
       tally-more _ _ _ _ _ _ _ (c .before .before .before .before .before .before .loop .inv .0) d (part-taken _ _ p),
       omega arith,
       omega (arith, d .most, part-length (c .before .before .before .before .before .before .before .before .args .bap .now) p (c .before .before .before .before .before .before .before .before .pre .0) (c .before .before .before .before .before .loop-test .taken)),
+      c .before .before .count-part .ensures .1,
     )
 
 returns : tie.Need-returns Inv-loop μ-loop

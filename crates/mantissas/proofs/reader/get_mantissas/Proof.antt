@@ -7,7 +7,8 @@ use borrow.Author.Needs.{needs}
 use Rattle.bits.specs.Field.{bitsOf}
 use Rattle.bits.specs.FieldLaws.{length-bitsOf}
 use Rattle.mantissas.specs.Digits.{below-at}
-use Rattle.mantissas.proofs.Arrays.{Started, started-zeros, started-set}
+use Rattle.mantissas.specs.Inner.{Started}
+use Rattle.mantissas.proofs.Arrays.{started-zeros, started-set}
 use Rattle.mantissas.proofs.Reading.{Reading, read-start, read-new, read-old, read-fault, read-end}
 use Rattle.mantissas.proofs.reader.get_mantissas.Statement.{statement}
 use Rattle.mantissas.proofs.reader.get_mantissas.Tie as tie

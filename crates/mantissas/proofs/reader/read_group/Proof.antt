@@ -16,12 +16,12 @@ values-requires c κs = (search needs, omega (arith, c .size .ensures .0))
 returns-2 : tie.Need-returns-2
 returns-2 c =
     group-no-code _ (c .before .before .before .before .before .before .before .before .width .ensures .0) (sym (c .before .before .before .before .before .before .before .get .ensures) ∙ c .before .before .before .before .before .got .given .1)
-    (rw (c .before .before .before .size .ensures .0) at (c .before .before .values .ensures .0)) (c .before .if1 .taken) (c .refused2 .ensures)
+    (rw (c .before .before .before .size .ensures .0) at (c .before .before .values .ensures .0)) (omega (arith, c .before .if1 .taken)) (c .refused2 .ensures)
 
 returns-3 : tie.Need-returns-3
 returns-3 c =
     group-good _ (c .before .before .before .before .before .before .before .before .width .ensures .0) (sym (c .before .before .before .before .before .before .before .get .ensures) ∙ c .before .before .before .before .before .got .given .1)
-    (rw (c .before .before .before .size .ensures .0) at (c .before .before .values .ensures .0)) (c .before .if1 .left) (c .before .before .values .ensures .1 .1) (rw length-bitsOf (omega arith)) (c .accepted .ensures)
+    (rw (c .before .before .before .size .ensures .0) at (c .before .before .values .ensures .0)) (omega (arith, c .before .if1 .left)) (c .before .before .values .ensures .1 .1) (rw length-bitsOf (omega arith)) (c .accepted .ensures)
 
 pub read-group-spec : {M : Type 1} → statement M
 read-group-spec =

@@ -1,3 +1,4 @@
+-- The whole part of twice the value is exact; with one more, halved, it is the nearest whole number, a half up.
 use borrow.Author.Needs.{needs}
 use mathlib.Core.Path.{_≡_, sym, ap, _∙_, subst}
 use Prim.Native.Nat.{_*_, _/_, _^_}
@@ -9,8 +10,8 @@ use Rattle.quantiser.specs.AsymmetricLaws.{trunc-in, trunc-is, trunc-le,
 use Rattle.quantiser.proofs.asymmetric.half_away.Statement.{statement}
 use Rattle.quantiser.proofs.asymmetric.half_away.Tie as tie
 
-held : (c : tie.Start) → T (fits binary32 (c .args .a))
-held c = subst T (sym (c .good .0 .1)) tt
+in-format : (c : tie.Start) → T (fits binary32 (c .args .a))
+in-format c = subst T (sym (c .good .0 .1)) tt
 
 -- the whole part of a * 2 ^ w
 whole : (c : tie.After-truncating-f32-to-u64) → c .truncating-f32-to-u64 .result ≡ num (c .before .before .args .a) * 2 ^ c .before .before .args .width / den (c .before .before .args .a)
@@ -18,15 +19,12 @@ whole c =
     let s = c .before .before in
     c .truncating-f32-to-u64 .ensures
     ∙ ap (λ (x : Float). toUnsigned 64 (mul binary32 (s .args .a) x)) (c .before .power-f32 .ensures)
-    ∙ trunc-is (s .args .a) (s .args .width) (search needs) (held s) (s .pre .0) (s .pre .1 .0)
-
-power-f32-requires : tie.Need-power-f32-requires
-power-f32-requires c κs = search needs
+    ∙ trunc-is (s .args .a) (s .args .width) (search needs) (in-format s) (s .pre .0) (s .pre .1 .0)
 
 truncating-f32-to-u64-requires : tie.Need-truncating-f32-to-u64-requires
 truncating-f32-to-u64-requires c κs =
     let s = c .before in
-    rw (c .power-f32 .ensures) (trunc-in (s .args .a) (s .args .width) (search needs) (held s) (s .pre .0) (s .pre .1 .0))
+    rw (c .power-f32 .ensures) (trunc-in (s .args .a) (s .args .width) (search needs) (in-format s) (s .pre .0) (s .pre .1 .0))
 
 add-result : tie.Need-add-result
 add-result c = let l = trunc-le (c .before .before .args .a) (c .before .before .args .width) _ (c .before .before .pre .0) (search needs) (whole c) in omega arith
@@ -40,4 +38,4 @@ returns c = half-is (c .before .before .args .a) (c .before .before .args .width
 pub half-away-spec : {M : Type 1} → statement M
 half-away-spec =
     tie.close
-    (tie.spec power-f32-requires truncating-f32-to-u64-requires add-result cast-result returns)
+    (tie.spec (λ c κs. search needs) truncating-f32-to-u64-requires add-result cast-result returns)

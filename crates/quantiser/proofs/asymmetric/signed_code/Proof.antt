@@ -1,3 +1,4 @@
+-- The size rounded, and each of its four ways out is a law of AsymmetricLaws.antt.
 use borrow.Author.Needs.{needs}
 use native.Mathlib.Omega.{arith}
 use native.Mathlib.Nat.{le-trans}
@@ -14,9 +15,6 @@ returns c =
     let s = c .before .before .before in
     code-zero (s .args .m) (s .args .width) (c .before .half-away .result) (s .pre .1 .0) (s .pre .0) (c .before .before .if1 .taken) (c .before .half-away .ensures) (c .if2 .taken)
 
-power-requires : tie.Need-power-requires
-power-requires c κs = search needs
-
 sub-result : tie.Need-sub-result
 sub-result c =
     let s = c .before .before .before .before in
@@ -29,15 +27,6 @@ returns-2 c =
     rw (c .power .ensures)
     (code-neg (s .args .m) (s .args .width) (c .before .before .half-away .result) (s .pre .1 .0) (s .pre .0) (c .before .before .before .if1 .taken) (c .before .before .half-away .ensures)
     (omega arith))
-
-half-away-requires-2 : tie.Need-half-away-requires-2
-half-away-requires-2 c κs = search needs
-
-sub-power : tie.Need-sub-power
-sub-power c = search needs
-
-power-requires-2 : tie.Need-power-requires-2
-power-requires-2 c κs = search needs
 
 returns-3 : tie.Need-returns-3
 returns-3 c =
@@ -61,12 +50,12 @@ signed-code-spec =
     (tie.spec
     half-away-requires
     returns
-    power-requires
+    (λ c κs. search needs)
     sub-result
     returns-2
-    half-away-requires-2
-    sub-power
-    power-requires-2
+    (λ c κs. search needs)
+    (λ c. search needs)
+    (λ c κs. search needs)
     returns-3
     sub-result-2
     returns-4)

@@ -12,23 +12,11 @@ returns : tie.Need-returns
 unfolding codeOf
 returns c = simp (eq-eqb _ 0 (c .if1 .taken))
 
-scale-requires : tie.Need-scale-requires
-scale-requires c κs = search needs
-
-level-code-requires : tie.Need-level-code-requires
-level-code-requires c κs = search needs
-
 returns-2 : tie.Need-returns-2
 unfolding codeOf
 returns-2 c =
     simp (ne-eqb _ 0 (c .before .before .before .if1 .left), lt-ltb _ 6 (c .before .if2 .taken))
     (rw (c .before .before .scale .ensures) at (c .level-code .ensures))
-
-quantization-bits-requires : tie.Need-quantization-bits-requires
-quantization-bits-requires c κs = search needs
-
-cast-signed-code : tie.Need-cast-signed-code
-cast-signed-code c = search needs
 
 signed-code-requires : tie.Need-signed-code-requires
 signed-code-requires c κs =
@@ -49,10 +37,10 @@ mantissa-code-spec =
     tie.close
     (tie.spec
     returns
-    scale-requires
-    level-code-requires
+    (λ c κs. search needs)
+    (λ c κs. search needs)
     returns-2
-    quantization-bits-requires
-    cast-signed-code
+    (λ c κs. search needs)
+    (λ c. search needs)
     signed-code-requires
     returns-3)

@@ -1,3 +1,4 @@
+-- By the two tests of `held`.
 use Rattle.quantiser.specs.Scale.{held}
 use Rattle.quantiser.proofs.scale.hold.Statement.{statement}
 use Rattle.quantiser.proofs.scale.hold.Tie as tie

@@ -1,12 +1,10 @@
+-- A power of two up to 2^24 is an f32.
 use borrow.Author.Needs.{needs}
 use lib.Dec.{le→leb}
 use lib.Pow.{pow-mono}
 use lib.Ieee.{inFloat}
 use Rattle.quantiser.proofs.scale.power_f32.Statement.{statement}
 use Rattle.quantiser.proofs.scale.power_f32.Tie as tie
-
-power-requires : tie.Need-power-requires
-power-requires c κs = search needs
 
 int-to-float-result : tie.Need-int-to-float-result
 unfolding inFloat
@@ -16,4 +14,4 @@ returns : tie.Need-returns
 returns c = rw (c .before .power .ensures)
 
 pub power-f32-spec : {M : Type 1} → statement M
-power-f32-spec = tie.close (tie.spec power-requires int-to-float-result returns)
+power-f32-spec = tie.close (tie.spec (λ c κs. search needs) int-to-float-result returns)

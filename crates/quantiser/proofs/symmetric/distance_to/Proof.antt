@@ -1,3 +1,4 @@
+-- By the test of `distance`.
 use Rattle.quantiser.specs.Symmetric.{distance}
 use Rattle.quantiser.proofs.symmetric.distance_to.Statement.{statement}
 use Rattle.quantiser.proofs.symmetric.distance_to.Tie as tie

@@ -1,3 +1,4 @@
+-- Each table of `tables` has the levels of its bap: computed.
 use borrow.Author.Needs.{needs}
 use mathlib.Core.Path.{_≡_}
 use native.Mathlib.Omega.{arith}
@@ -5,36 +6,6 @@ use lib.Ieee.{round, ofBits}
 use Rattle.tables.specs.Quantizer.{levels, levelCount}
 use Rattle.quantiser.proofs.symmetric.level_code.Statement.{statement}
 use Rattle.quantiser.proofs.symmetric.level_code.Tie as tie
-
-slice-aggregate-nearest-symmetric : tie.Need-slice-aggregate-nearest-symmetric
-slice-aggregate-nearest-symmetric c = search needs
-
-nearest-symmetric-requires : tie.Need-nearest-symmetric-requires
-nearest-symmetric-requires c κs = search needs
-
-slice-aggregate-nearest-symmetric-2 : tie.Need-slice-aggregate-nearest-symmetric-2
-slice-aggregate-nearest-symmetric-2 c = search needs
-
-nearest-symmetric-requires-2 : tie.Need-nearest-symmetric-requires-2
-nearest-symmetric-requires-2 c κs = search needs
-
-slice-aggregate-nearest-symmetric-3 : tie.Need-slice-aggregate-nearest-symmetric-3
-slice-aggregate-nearest-symmetric-3 c = search needs
-
-nearest-symmetric-requires-3 : tie.Need-nearest-symmetric-requires-3
-nearest-symmetric-requires-3 c κs = search needs
-
-slice-aggregate-nearest-symmetric-4 : tie.Need-slice-aggregate-nearest-symmetric-4
-slice-aggregate-nearest-symmetric-4 c = search needs
-
-nearest-symmetric-requires-4 : tie.Need-nearest-symmetric-requires-4
-nearest-symmetric-requires-4 c κs = search needs
-
-slice-aggregate-nearest-symmetric-5 : tie.Need-slice-aggregate-nearest-symmetric-5
-slice-aggregate-nearest-symmetric-5 c = search needs
-
-nearest-symmetric-requires-5 : tie.Need-nearest-symmetric-requires-5
-nearest-symmetric-requires-5 c κs = search needs
 
 returns : tie.Need-returns
 unfolding levels levelCount round ofBits
@@ -60,16 +31,16 @@ pub level-code-spec : {M : Type 1} → statement M
 level-code-spec =
     tie.close
     (tie.spec
-    slice-aggregate-nearest-symmetric
-    nearest-symmetric-requires
-    slice-aggregate-nearest-symmetric-2
-    nearest-symmetric-requires-2
-    slice-aggregate-nearest-symmetric-3
-    nearest-symmetric-requires-3
-    slice-aggregate-nearest-symmetric-4
-    nearest-symmetric-requires-4
-    slice-aggregate-nearest-symmetric-5
-    nearest-symmetric-requires-5
+    (λ c. search needs)
+    (λ c κs. search needs)
+    (λ c. search needs)
+    (λ c κs. search needs)
+    (λ c. search needs)
+    (λ c κs. search needs)
+    (λ c. search needs)
+    (λ c κs. search needs)
+    (λ c. search needs)
+    (λ c κs. search needs)
     returns
     returns-2
     returns-3

@@ -1,3 +1,4 @@
+-- The best so far and the levels from i on give the nearest of all.
 use borrow.Author.Needs.{needs}
 use mathlib.Core.Path.{_≡_, refl}
 use mathlib.Core.Logic.{⊎-elim}
@@ -27,24 +28,6 @@ loop-holds : tie.Need-loop-holds Inv-loop μ-loop
 unfolding nearestOf div ofBits
 loop-holds c = (search needs, refl)
 
-mul-distance-to : tie.Need-mul-distance-to Inv-loop μ-loop
-mul-distance-to c = search needs
-
-shared-slice-read-distance-to : tie.Need-shared-slice-read-distance-to Inv-loop μ-loop
-shared-slice-read-distance-to c = search needs
-
-distance-to-requires : tie.Need-distance-to-requires Inv-loop μ-loop
-distance-to-requires c κs = search needs
-
-cast-best : tie.Need-cast-best Inv-loop μ-loop
-cast-best c = search needs
-
-add-i : tie.Need-add-i Inv-loop μ-loop
-add-i c = search needs
-
-loop-less : tie.Need-loop-less Inv-loop μ-loop
-loop-less c = search needs
-
 loop-again : tie.Need-loop-again Inv-loop μ-loop
 loop-again c =
     let l = c .before .before .before .before in
@@ -62,11 +45,11 @@ nearest-symmetric-spec =
     Inv-loop
     μ-loop
     loop-holds
-    mul-distance-to
-    shared-slice-read-distance-to
-    distance-to-requires
-    cast-best
-    add-i
-    loop-less
+    (λ c. search needs)
+    (λ c. search needs)
+    (λ c κs. search needs)
+    (λ c. search needs)
+    (λ c. search needs)
+    (λ c. search needs)
     loop-again
     returns)

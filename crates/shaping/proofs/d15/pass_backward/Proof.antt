@@ -17,41 +17,13 @@ abbrev μ-loop : tie.MeasureT-loop
 returns : tie.Need-returns Inv-loop μ-loop
 returns c = back-short _ (c .if1 .taken)
 
-sub-i : tie.Need-sub-i Inv-loop μ-loop
-sub-i c = search needs
-
 loop-holds : tie.Need-loop-holds Inv-loop μ-loop
 loop-holds c = (search needs, search needs, search needs, back-last _ (omega arith))
 
-sub-i-2 : tie.Need-sub-i-2 Inv-loop μ-loop
-sub-i-2 c = search needs
-
-slice-read-smaller : tie.Need-slice-read-smaller Inv-loop μ-loop
-slice-read-smaller c = search needs
-
-add-roof : tie.Need-add-roof Inv-loop μ-loop
-add-roof c = search needs
-
-slice-read-roof : tie.Need-slice-read-roof Inv-loop μ-loop
-slice-read-roof c = search needs
-
-roof-requires : tie.Need-roof-requires Inv-loop μ-loop
-roof-requires c κs = search needs
-
-smaller-requires : tie.Need-smaller-requires Inv-loop μ-loop
-smaller-requires c κs = search needs
-
-slice-write-exp : tie.Need-slice-write-exp Inv-loop μ-loop
-slice-write-exp c = search needs
-
-loop-less : tie.Need-loop-less Inv-loop μ-loop
-loop-less c = search needs
-
 loop-again : tie.Need-loop-again Inv-loop μ-loop
-loop-again c = (search needs, search needs, search needs, back-turn _ (c .before .before .before .before .before .loop .exp) (c .before .before .before .before .before .loop .i) _ _ (omega arith) (omega arith) (c .before .before .before .before .before .loop .inv .3) (c .before .roof .ensures) (c .smaller .ensures))
-
-same-length : tie.Need-same-length Inv-loop μ-loop
-same-length c = search needs
+loop-again c =
+    let l = c .before .before .before .before .before .loop in
+    (search needs, search needs, search needs, back-turn _ (l .exp) (l .i) _ _ (omega arith) (omega arith) (l .inv .3) (c .before .roof .ensures) (c .smaller .ensures))
 
 returns-2 : tie.Need-returns-2 Inv-loop μ-loop
 returns-2 c = back-done _ _ (c .before .loop .i) (omega arith) (c .before .loop .inv .3)
@@ -63,16 +35,16 @@ pass-backward-spec =
     Inv-loop
     μ-loop
     returns
-    sub-i
+    (λ c. search needs)
     loop-holds
-    sub-i-2
-    slice-read-smaller
-    add-roof
-    slice-read-roof
-    roof-requires
-    smaller-requires
-    slice-write-exp
-    loop-less
+    (λ c. search needs)
+    (λ c. search needs)
+    (λ c. search needs)
+    (λ c. search needs)
+    (λ c κs. search needs)
+    (λ c κs. search needs)
+    (λ c. search needs)
+    (λ c. search needs)
     loop-again
-    same-length
+    (λ c. search needs)
     returns-2)

@@ -9,21 +9,18 @@ use Rattle.shaping.proofs.d15.preprocess_d15.Tie as tie
 
 returns : tie.Need-returns
 unfolding preprocessed
-returns c = simp (lt-leb _ _ (c .if1 .taken)) (refl, refl)
-
-pass-backward-requires : tie.Need-pass-backward-requires
-pass-backward-requires c κs = search needs
-
-lead-requires : tie.Need-lead-requires
-lead-requires c κs = search needs
-
-same-length : tie.Need-same-length
-same-length c = search needs
+returns c = simp (lt-leb _ 256 (c .if1 .taken)) (refl, refl)
 
 returns-2 : tie.Need-returns-2
 unfolding preprocessed
-returns-2 c = simp (le-leb _ _ (c .before .before .before .before .before .before .before .before .if1 .left)) (refl, d15-all (c .before .before .before .before .before .before .before .before .before .before .args .exp .now) (c .before .before .before .before .before .before .pass-backward .last .0) _ (c .before .before .before .before .before .before .pass-backward .ensures) (c .before .before .lead .ensures))
+returns-2 c = simp (le-leb _ 256 (c .before .before .before .before .before .before .before .before .if1 .left)) (refl, d15-all (c .before .before .before .before .before .before .before .before .before .before .args .exp .now) (c .before .before .before .before .before .before .pass-backward .last .0) _ (c .before .before .before .before .before .before .pass-backward .ensures) (c .before .before .lead .ensures))
 
 pub preprocess-d15-spec : {M : Type 1} → statement M
 preprocess-d15-spec =
-    tie.close (tie.spec returns pass-backward-requires lead-requires same-length returns-2)
+    tie.close
+    (tie.spec
+    returns
+    (λ c κs. search needs)
+    (λ c κs. search needs)
+    (λ c. search needs)
+    returns-2)

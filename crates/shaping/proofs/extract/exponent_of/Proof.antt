@@ -17,16 +17,17 @@ returns-2 : tie.Need-returns-2
 unfolding exponentOf
 returns-2 c = omega arith
 
-sub-result : tie.Need-sub-result
-sub-result c = search needs
-
-cast-result : tie.Need-cast-result
-cast-result c = search needs
-
 returns-3 : tie.Need-returns-3
 unfolding exponentOf
 returns-3 c = omega arith
 
 pub exponent-of-spec : {M : Type 1} → statement M
 exponent-of-spec =
-    tie.close (tie.spec float-to-bits-field returns returns-2 sub-result cast-result returns-3)
+    tie.close
+    (tie.spec
+    float-to-bits-field
+    returns
+    returns-2
+    (λ c. search needs)
+    (λ c. search needs)
+    returns-3)

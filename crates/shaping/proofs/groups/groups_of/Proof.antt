@@ -21,26 +21,11 @@ none end span e = rw e (go (eqb span 1) (eqb span 2))
 returns : tie.Need-returns
 returns c = (none (c .before .args .end) (c .before .args .grpsize) (c .if1 .taken), omega arith)
 
-sub-result : tie.Need-sub-result
-sub-result c = search needs
-
 returns-2 : tie.Need-returns-2
 returns-2 c = simp (eq-eqb _ 1 (c .if2 .taken)) (refl, omega arith)
 
-sub-result-2 : tie.Need-sub-result-2
-sub-result-2 c = search needs
-
-add-result : tie.Need-add-result
-add-result c = search needs
-
 returns-3 : tie.Need-returns-3
 returns-3 c = simp (ne-eqb _ 1 (c .before .if2 .left), eq-eqb _ 2 (c .if3 .taken)) (refl, omega arith)
-
-sub-result-3 : tie.Need-sub-result-3
-sub-result-3 c = search needs
-
-add-result-2 : tie.Need-add-result-2
-add-result-2 c = search needs
 
 returns-4 : tie.Need-returns-4
 returns-4 c = simp (ne-eqb _ 1 (c .before .if2 .left), ne-eqb _ 2 (c .if3 .left)) (refl, omega arith)
@@ -50,11 +35,11 @@ groups-of-spec =
     tie.close
     (tie.spec
     returns
-    sub-result
+    (λ c. search needs)
     returns-2
-    sub-result-2
-    add-result
+    (λ c. search needs)
+    (λ c. search needs)
     returns-3
-    sub-result-3
-    add-result-2
+    (λ c. search needs)
+    (λ c. search needs)
     returns-4)

@@ -5,23 +5,8 @@ use borrow.Author.Needs.{needs}
 use Rattle.shaping.proofs.passes.first_of.Statement.{statement}
 use Rattle.shaping.proofs.passes.first_of.Tie as tie
 
-shared-slice-read-smaller : tie.Need-shared-slice-read-smaller
-shared-slice-read-smaller c = search needs
-
-smaller-requires : tie.Need-smaller-requires
-smaller-requires c κs = search needs
-
 returns : tie.Need-returns
 returns c = (first-alone (c .before .before .before .before .args .exp .now) _ (c .if1 .taken) (c .before .smaller .ensures), omega arith)
-
-shared-slice-read-roof : tie.Need-shared-slice-read-roof
-shared-slice-read-roof c = search needs
-
-roof-requires : tie.Need-roof-requires
-roof-requires c κs = search needs
-
-smaller-requires-2 : tie.Need-smaller-requires-2
-smaller-requires-2 c κs = search needs
 
 returns-2 : tie.Need-returns-2
 returns-2 c = (first-before (c .before .before .before .before .before .before .before .args .exp .now) _ _ _ (omega arith) (c .before .before .before .before .smaller .ensures) (c .before .roof .ensures) (c .smaller2 .ensures), omega arith)
@@ -30,10 +15,10 @@ pub first-of-spec : {M : Type 1} → statement M
 first-of-spec =
     tie.close
     (tie.spec
-    shared-slice-read-smaller
-    smaller-requires
+    (λ c. search needs)
+    (λ c κs. search needs)
     returns
-    shared-slice-read-roof
-    roof-requires
-    smaller-requires-2
+    (λ c. search needs)
+    (λ c κs. search needs)
+    (λ c κs. search needs)
     returns-2)

@@ -9,15 +9,6 @@ use Rattle.shaping.proofs.passes.lead.Tie as tie
 returns : tie.Need-returns
 returns c = led-none _ _ (c .if1 .taken)
 
-first-of-requires : tie.Need-first-of-requires
-first-of-requires c κs = search needs
-
-slice-write-exp : tie.Need-slice-write-exp
-slice-write-exp c = search needs
-
-pass-forward-requires : tie.Need-pass-forward-requires
-pass-forward-requires c κs = search needs
-
 same-length : tie.Need-same-length
 same-length c = simp length-set at (c .before .before .pass-forward .kept .0)
 
@@ -29,8 +20,8 @@ lead-spec =
     tie.close
     (tie.spec
     returns
-    first-of-requires
-    slice-write-exp
-    pass-forward-requires
+    (λ c κs. search needs)
+    (λ c. search needs)
+    (λ c κs. search needs)
     same-length
     returns-2)

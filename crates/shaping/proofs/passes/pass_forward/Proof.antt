@@ -20,24 +20,6 @@ abbrev μ-loop : tie.MeasureT-loop
 loop-holds : tie.Need-loop-holds Inv-loop μ-loop
 loop-holds c = (refl, omega arith, refl)
 
-slice-read-hold : tie.Need-slice-read-hold Inv-loop μ-loop
-slice-read-hold c = search needs
-
-hold-requires : tie.Need-hold-requires Inv-loop μ-loop
-hold-requires c κs = search needs
-
-sub-j : tie.Need-sub-j Inv-loop μ-loop
-sub-j c = search needs
-
-slice-write-exp : tie.Need-slice-write-exp Inv-loop μ-loop
-slice-write-exp c = search needs
-
-add-i : tie.Need-add-i Inv-loop μ-loop
-add-i c = search needs
-
-loop-less : tie.Need-loop-less Inv-loop μ-loop
-loop-less c = search needs
-
 loop-again : tie.Need-loop-again Inv-loop μ-loop
 loop-again c =
     let l = c .before .before .loop in (
@@ -46,9 +28,6 @@ loop-again c =
       sweep-turn (forward _ (l .j) (l .v)) (forward _ (c .if1 .j) (c .if1 .v)) (l .exp) _ (l .i) _ (l .inv .2) (omega arith)
           (⊎-elim (λ w. forward-head _ _ _ _ _ _ _ (w .0 .taken) (w .3) (w .4 ∙ w .2 .ensures)) (λ w. forward-same _ _ _ _ _ _ _ (w .0 .left) (w .1) (w .2)) (c .if1 .came)),
     )
-
-same-length : tie.Need-same-length Inv-loop μ-loop
-same-length c = search needs
 
 returns : tie.Need-returns Inv-loop μ-loop
 unfolding forward
@@ -63,12 +42,12 @@ pass-forward-spec =
     Inv-loop
     μ-loop
     loop-holds
-    slice-read-hold
-    hold-requires
-    sub-j
-    slice-write-exp
-    add-i
-    loop-less
+    (λ c. search needs)
+    (λ c κs. search needs)
+    (λ c. search needs)
+    (λ c. search needs)
+    (λ c. search needs)
+    (λ c. search needs)
     loop-again
-    same-length
+    (λ c. search needs)
     returns)

@@ -4,9 +4,6 @@ use borrow.Author.Needs.{needs}
 use Rattle.shaping.proofs.passes.roof.Statement.{statement}
 use Rattle.shaping.proofs.passes.roof.Tie as tie
 
-add-result : tie.Need-add-result
-add-result c = search needs
-
 returns : tie.Need-returns
 returns c = omega arith
 
@@ -14,4 +11,5 @@ returns-2 : tie.Need-returns-2
 returns-2 c = omega arith
 
 pub roof-spec : {M : Type 1} → statement M
-roof-spec = tie.close (tie.spec add-result returns returns-2)
+roof-spec =
+    tie.close (tie.spec (λ c. search needs) returns returns-2)

@@ -30,29 +30,8 @@ mul-at-2 c = omega (arith, inside (c .before .before), c .before .before .pre .0
 add-after : tie.Need-add-after
 add-after c = omega (arith, inside (c .before .before), c .before .before .pre .0 .few)
 
-sub-part : tie.Need-sub-part
-sub-part c = search needs
-
-part-part-start : tie.Need-part-part-start
-part-part-start c = search needs
-
 part-part-end : tie.Need-part-part-end
 part-part-end c = omega (arith, inside (c .before .before), c .before .before .pre .0 .whole)
-
-mul-wide : tie.Need-mul-wide
-mul-wide c = search needs
-
-shared-slice-read-wide : tie.Need-shared-slice-read-wide
-shared-slice-read-wide c = search needs
-
-wide-requires : tie.Need-wide-requires
-wide-requires c κs = search needs
-
-sub-strategy-of : tie.Need-sub-strategy-of
-sub-strategy-of c = search needs
-
-part-strategy-of-start : tie.Need-part-strategy-of-start
-part-strategy-of-start c = search needs
 
 part-strategy-of-end : tie.Need-part-strategy-of-end
 part-strategy-of-end c = omega (arith, block-length (c .before .before .before .before .before), c .before .before .before .before .before .pre .0 .held (c .before .before .before .before .before .args .channel))
@@ -61,7 +40,9 @@ strategy-of-requires : tie.Need-strategy-of-requires
 strategy-of-requires c κs = simp length-take (omega (arith, c .before .before .before .before .before .before .pre .0 .held (c .before .before .before .before .before .before .args .channel)))
 
 returns : tie.Need-returns
-returns c = picked-block (c .before .before .before .before .before .before .before .args .exps .now) (c .before .before .before .before .before .before .before .args .ends .now) _ _ _ _ _ (c .before .before .wide .result) _ refl refl refl (c .before .before .wide .ensures) (c .strategy-of .ensures)
+returns c =
+    let x = c .before .before .before .before .before .before .before .args in
+    picked-block (x .exps .now) (x .ends .now) _ _ _ _ _ (c .before .before .wide .result) _ refl refl refl (c .before .before .wide .ensures) (c .strategy-of .ensures)
 
 pub block-strategy-spec : {M : Type 1} → statement M
 block-strategy-spec =
@@ -71,14 +52,14 @@ block-strategy-spec =
     add-at
     mul-at-2
     add-after
-    sub-part
-    part-part-start
+    (λ c. search needs)
+    (λ c. search needs)
     part-part-end
-    mul-wide
-    shared-slice-read-wide
-    wide-requires
-    sub-strategy-of
-    part-strategy-of-start
+    (λ c. search needs)
+    (λ c. search needs)
+    (λ c κs. search needs)
+    (λ c. search needs)
+    (λ c. search needs)
     part-strategy-of-end
     strategy-of-requires
     returns)

@@ -18,23 +18,15 @@ abbrev μ-loop : tie.MeasureT-loop
 loop-holds : tie.Need-loop-holds Inv-loop μ-loop
 loop-holds c = refl
 
-mul-if1 : tie.Need-mul-if1 Inv-loop μ-loop
-mul-if1 c = search needs
-
-shared-slice-read-if1 : tie.Need-shared-slice-read-if1 Inv-loop μ-loop
-shared-slice-read-if1 c = search needs
-
 returns : tie.Need-returns Inv-loop μ-loop
-returns c = ends-high (c .before .before .before .before .args .ends .now) (c .before .before .before .loop .i) (c .before .before .before .loop .inv) (omega arith) (c .if1 .taken)
-
-add-i : tie.Need-add-i Inv-loop μ-loop
-add-i c = search needs
-
-loop-less : tie.Need-loop-less Inv-loop μ-loop
-loop-less c = search needs
+returns c =
+    let l = c .before .before .before .loop in
+    ends-high (c .before .before .before .before .args .ends .now) (l .i) (l .inv) (omega arith) (c .if1 .taken)
 
 loop-again : tie.Need-loop-again Inv-loop μ-loop
-loop-again c = ends-turn (c .before .before .before .before .args .ends .now) (c .before .before .before .loop .i) (c .before .before .before .loop .inv) (omega arith) (c .if1 .left)
+loop-again c =
+    let l = c .before .before .before .loop in
+    ends-turn (c .before .before .before .before .args .ends .now) (l .i) (l .inv) (omega arith) (c .if1 .left)
 
 returns-2 : tie.Need-returns-2 Inv-loop μ-loop
 returns-2 c = ends-done (c .before .before .args .ends .now) (c .before .loop .i) (c .before .loop .inv) (omega arith)
@@ -46,10 +38,10 @@ ends-held-spec =
     Inv-loop
     μ-loop
     loop-holds
-    mul-if1
-    shared-slice-read-if1
+    (λ c. search needs)
+    (λ c. search needs)
     returns
-    add-i
-    loop-less
+    (λ c. search needs)
+    (λ c. search needs)
     loop-again
     returns-2)

@@ -8,9 +8,6 @@ use borrow.Author.Needs.{needs}
 use Rattle.shaping.proofs.select.select_exp_strategies_per_end.Statement.{statement}
 use Rattle.shaping.proofs.select.select_exp_strategies_per_end.Tie as tie
 
-select-refusal-requires : tie.Need-select-refusal-requires
-select-refusal-requires c κs = search needs
-
 returns : tie.Need-returns
 unfolding selected
 returns c = simp (← c .before .select-refusal .ensures, ne-eqb _ _ (c .if1 .taken))
@@ -41,7 +38,7 @@ pub select-exp-strategies-per-end-spec : {M : Type 1} → statement M
 select-exp-strategies-per-end-spec =
     tie.close
     (tie.spec
-    select-refusal-requires
+    (λ c κs. search needs)
     returns
     strategy-row-requires
     strategy-row-requires-2

@@ -9,9 +9,6 @@ use borrow.Author.Needs.{needs}
 use Rattle.shaping.proofs.select.select_refusal.Statement.{statement}
 use Rattle.shaping.proofs.select.select_refusal.Tie as tie
 
-ends-held-requires : tie.Need-ends-held-requires
-ends-held-requires c κs = search needs
-
 returns : tie.Need-returns
 returns c =
     let n = length (c .before .before .before .before .args .ends .now) in
@@ -42,4 +39,4 @@ returns-3 c =
 
 pub select-refusal-spec : {M : Type 1} → statement M
 select-refusal-spec =
-    tie.close (tie.spec ends-held-requires returns mul-if2 mul-if2-2 returns-2 returns-3)
+    tie.close (tie.spec (λ c κs. search needs) returns mul-if2 mul-if2-2 returns-2 returns-3)

@@ -15,12 +15,6 @@ Inv-loop exp i h m₀ k₀ j₀ m k j = (k ≤ length exp) × (least j m (drop k
 abbrev μ-loop : tie.MeasureT-loop
 μ-loop exp i h m₀ k₀ j₀ m k j = j
 
-shared-slice-read-m : tie.Need-shared-slice-read-m Inv-loop μ-loop
-shared-slice-read-m c = search needs
-
-add-k : tie.Need-add-k Inv-loop μ-loop
-add-k c = search needs
-
 loop-holds : tie.Need-loop-holds Inv-loop μ-loop
 loop-holds c = (omega arith, refl)
 
@@ -28,21 +22,6 @@ returns : tie.Need-returns Inv-loop μ-loop
 returns c =
     let l = c .before .before .loop in
     least-end (c .before .before .before .before .before .args .exp .now) _ (l .j) _ (l .k) (l .inv .1) (c .if1 .taken)
-
-shared-slice-read-smaller : tie.Need-shared-slice-read-smaller Inv-loop μ-loop
-shared-slice-read-smaller c = search needs
-
-smaller-requires : tie.Need-smaller-requires Inv-loop μ-loop
-smaller-requires c κs = search needs
-
-add-k-2 : tie.Need-add-k-2 Inv-loop μ-loop
-add-k-2 c = search needs
-
-sub-j : tie.Need-sub-j Inv-loop μ-loop
-sub-j c = search needs
-
-loop-less : tie.Need-loop-less Inv-loop μ-loop
-loop-less c = search needs
 
 loop-again : tie.Need-loop-again Inv-loop μ-loop
 loop-again c =
@@ -60,14 +39,14 @@ least-from-spec =
     (tie.spec
     Inv-loop
     μ-loop
-    shared-slice-read-m
-    add-k
+    (λ c. search needs)
+    (λ c. search needs)
     loop-holds
     returns
-    shared-slice-read-smaller
-    smaller-requires
-    add-k-2
-    sub-j
-    loop-less
+    (λ c. search needs)
+    (λ c κs. search needs)
+    (λ c. search needs)
+    (λ c. search needs)
+    (λ c. search needs)
     loop-again
     returns-2)

@@ -11,51 +11,15 @@ returns c =
     let a = c .before .before .args in
     front-off (a .exp .now) (a .i) (a .h) (a .c) (c .if1 .taken)
 
-sub-if2 : tie.Need-sub-if2
-sub-if2 c = search needs
-
-add-if2 : tie.Need-add-if2
-add-if2 c = search needs
-
 returns-2 : tie.Need-returns-2
 returns-2 c =
     let a = c .before .before .before .args in
     front-last (a .exp .now) (a .i) (a .h) (a .c) (omega arith) (omega arith)
 
-add-e : tie.Need-add-e
-add-e c = search needs
-
-add-e-2 : tie.Need-add-e-2
-add-e-2 c = search needs
-
-slice-read-roof : tie.Need-slice-read-roof
-slice-read-roof c = search needs
-
-roof-requires : tie.Need-roof-requires
-roof-requires c κs = search needs
-
-slice-read-if3 : tie.Need-slice-read-if3
-slice-read-if3 c = search needs
-
 returns-3 : tie.Need-returns-3
 returns-3 c =
     let a = c .before .before .before .before .before .before .before .args in
     front-keep (a .exp .now) (a .i) (a .h) (a .c) (c .before .before .roof .result) (omega arith) (c .before .before .roof .ensures) (omega arith) (omega arith)
-
-sub-fill : tie.Need-sub-fill
-sub-fill c = search needs
-
-part-fill-start : tie.Need-part-fill-start
-part-fill-start c = search needs
-
-part-fill-end : tie.Need-part-fill-end
-part-fill-end c = search needs
-
-fill-requires : tie.Need-fill-requires
-fill-requires c κs = search needs
-
-same-length : tie.Need-same-length
-same-length c = search needs
 
 returns-4 : tie.Need-returns-4
 returns-4 c =
@@ -67,18 +31,18 @@ lower-span-spec =
     tie.close
     (tie.spec
     returns
-    sub-if2
-    add-if2
+    (λ c. search needs)
+    (λ c. search needs)
     returns-2
-    add-e
-    add-e-2
-    slice-read-roof
-    roof-requires
-    slice-read-if3
+    (λ c. search needs)
+    (λ c. search needs)
+    (λ c. search needs)
+    (λ c κs. search needs)
+    (λ c. search needs)
     returns-3
-    sub-fill
-    part-fill-start
-    part-fill-end
-    fill-requires
-    same-length
+    (λ c. search needs)
+    (λ c. search needs)
+    (λ c. search needs)
+    (λ c κs. search needs)
+    (λ c. search needs)
     returns-4)

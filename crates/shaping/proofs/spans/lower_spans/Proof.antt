@@ -20,19 +20,9 @@ returns : tie.Need-returns Inv-loop μ-loop
 returns c = spans-short _ _ (c .if1 .taken)
 
 loop-holds : tie.Need-loop-holds Inv-loop μ-loop
-loop-holds c = (omega arith, omega arith, refl, lacks-start (c .before .before .args .exp .now) (c .before .before .args .h), spans-start _ _)
-
-sub-i : tie.Need-sub-i Inv-loop μ-loop
-sub-i c = search needs
-
-count-down-requires : tie.Need-count-down-requires Inv-loop μ-loop
-count-down-requires c κs = search needs
-
-lower-span-requires : tie.Need-lower-span-requires Inv-loop μ-loop
-lower-span-requires c κs = search needs
-
-loop-less : tie.Need-loop-less Inv-loop μ-loop
-loop-less c = search needs
+loop-holds c =
+    let x = c .before .before .args in
+    (omega arith, omega arith, refl, lacks-start (x .exp .now) (x .h), spans-start _ _)
 
 loop-again : tie.Need-loop-again Inv-loop μ-loop
 loop-again c =
@@ -44,9 +34,6 @@ loop-again c =
       lacks-turn (a .exp .now) (l .i) (a .h) (l .c) _ (l .inv .3) (c .before .before .before .before .count-down .ensures) (omega arith) (omega arith),
       spans-turn (a .exp .now) (l .exp) _ (l .i) (a .h) (l .c) _ (l .inv .4) (l .inv .3) (c .before .before .before .before .count-down .ensures) (c .before .before .lower-span .ensures) (omega arith) (omega arith),
     )
-
-same-length : tie.Need-same-length Inv-loop μ-loop
-same-length c = search needs
 
 returns-2 : tie.Need-returns-2 Inv-loop μ-loop
 returns-2 c =
@@ -62,10 +49,10 @@ lower-spans-spec =
     μ-loop
     returns
     loop-holds
-    sub-i
-    count-down-requires
-    lower-span-requires
-    loop-less
+    (λ c. search needs)
+    (λ c κs. search needs)
+    (λ c κs. search needs)
+    (λ c. search needs)
     loop-again
-    same-length
+    (λ c. search needs)
     returns-2)

@@ -21,28 +21,10 @@ abbrev μ-loop : tie.MeasureT-loop
 loop-holds : tie.Need-loop-holds Inv-loop μ-loop
 loop-holds c = (refl, refl)
 
-least-from-requires : tie.Need-least-from-requires Inv-loop μ-loop
-least-from-requires c κs = search needs
-
-sub-j : tie.Need-sub-j Inv-loop μ-loop
-sub-j c = search needs
-
-slice-write-exp : tie.Need-slice-write-exp Inv-loop μ-loop
-slice-write-exp c = search needs
-
-add-i : tie.Need-add-i Inv-loop μ-loop
-add-i c = search needs
-
-loop-less : tie.Need-loop-less Inv-loop μ-loop
-loop-less c = search needs
-
 loop-again : tie.Need-loop-again Inv-loop μ-loop
 loop-again c =
     let l = c .before .before .loop in
     (simp length-set (omega arith), sweep-turn (merged _ (l .j) (l .v)) (merged _ (c .if1 .j) (c .if1 .v)) (l .exp) _ (l .i) _ (l .inv .1) (omega arith) (⊎-elim (λ w. merged-head _ _ _ _ _ _ _ (w .0 .taken) (w .3) (w .4 ∙ rw add-one at (w .2 .ensures))) (λ w. merged-same _ _ _ _ _ _ _ (w .0 .left) (w .1) (w .2)) (c .if1 .came)))
-
-same-length : tie.Need-same-length Inv-loop μ-loop
-same-length c = search needs
 
 returns : tie.Need-returns Inv-loop μ-loop
 unfolding merged
@@ -57,11 +39,11 @@ merge-spec =
     Inv-loop
     μ-loop
     loop-holds
-    least-from-requires
-    sub-j
-    slice-write-exp
-    add-i
-    loop-less
+    (λ c κs. search needs)
+    (λ c. search needs)
+    (λ c. search needs)
+    (λ c. search needs)
+    (λ c. search needs)
     loop-again
-    same-length
+    (λ c. search needs)
     returns)

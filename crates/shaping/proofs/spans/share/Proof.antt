@@ -11,18 +11,6 @@ returns c = spanned-one _ _ (c .if1 .taken)
 returns-2 : tie.Need-returns-2
 returns-2 c = spanned-short _ _ (c .if2 .taken)
 
-merge-requires : tie.Need-merge-requires
-merge-requires c κs = search needs
-
-lower-spans-requires : tie.Need-lower-spans-requires
-lower-spans-requires c κs = search needs
-
-lead-requires : tie.Need-lead-requires
-lead-requires c κs = search needs
-
-same-length : tie.Need-same-length
-same-length c = search needs
-
 returns-3 : tie.Need-returns-3
 returns-3 c = spanned-all (c .before .before .before .before .before .before .before .before .before .before .before .before .before .before .before .args .exp .now) (c .before .before .before .before .before .before .before .before .before .before .merge .last .0) (c .before .before .before .before .before .before .lower-spans .last .0) _ _ (c .before .before .before .before .before .before .before .before .before .before .merge .ensures) (c .before .before .before .before .before .before .lower-spans .ensures) (c .before .before .lead .ensures) (omega arith) (omega arith)
 
@@ -32,8 +20,8 @@ share-spec =
     (tie.spec
     returns
     returns-2
-    merge-requires
-    lower-spans-requires
-    lead-requires
-    same-length
+    (λ c κs. search needs)
+    (λ c κs. search needs)
+    (λ c κs. search needs)
+    (λ c. search needs)
     returns-3)

@@ -7,21 +7,6 @@ use borrow.Author.Needs.{needs}
 use Rattle.sheet.proofs.check.in_range.Statement.{statement}
 use Rattle.sheet.proofs.check.in_range.Tie as tie
 
-common-of-requires : tie.Need-common-of-requires
-common-of-requires c κs = search needs
-
-common-in-range-requires : tie.Need-common-in-range-requires
-common-in-range-requires c κs = search needs
-
-records-in-range-requires : tie.Need-records-in-range-requires
-records-in-range-requires c κs = search needs
-
-channels-of-requires : tie.Need-channels-of-requires
-channels-of-requires c κs = search needs
-
-each-once-requires : tie.Need-each-once-requires
-each-once-requires c κs = search needs
-
 returns : tie.Need-returns
 returns c =
     let s = c .before .before .before .before .before .before .before .args .sheet .now in
@@ -40,10 +25,10 @@ pub in-range-spec : {M : Type 1} → statement M
 in-range-spec =
     tie.close
     (tie.spec
-    common-of-requires
-    common-in-range-requires
-    records-in-range-requires
-    channels-of-requires
-    each-once-requires
+    (λ c κs. search needs)
+    (λ c κs. search needs)
+    (λ c κs. search needs)
+    (λ c κs. search needs)
+    (λ c κs. search needs)
     returns
     returns-2)

@@ -3,33 +3,6 @@ use borrow.Author.Needs.{needs}
 use Rattle.sheet.proofs.common_part.common_of.Statement.{statement}
 use Rattle.sheet.proofs.common_part.common_of.Tie as tie
 
-byte-at-requires : tie.Need-byte-at-requires
-byte-at-requires c κs = search needs
-
-byte-at-requires-2 : tie.Need-byte-at-requires-2
-byte-at-requires-2 c κs = search needs
-
-byte-at-requires-3 : tie.Need-byte-at-requires-3
-byte-at-requires-3 c κs = search needs
-
-byte-at-requires-4 : tie.Need-byte-at-requires-4
-byte-at-requires-4 c κs = search needs
-
-byte-at-requires-5 : tie.Need-byte-at-requires-5
-byte-at-requires-5 c κs = search needs
-
-byte-at-requires-6 : tie.Need-byte-at-requires-6
-byte-at-requires-6 c κs = search needs
-
-byte-at-requires-7 : tie.Need-byte-at-requires-7
-byte-at-requires-7 c κs = search needs
-
-byte-at-requires-8 : tie.Need-byte-at-requires-8
-byte-at-requires-8 c κs = search needs
-
-byte-at-requires-9 : tie.Need-byte-at-requires-9
-byte-at-requires-9 c κs = search needs
-
 returns : tie.Need-returns
 returns c = cc
 
@@ -37,13 +10,13 @@ pub common-of-spec : {M : Type 1} → statement M
 common-of-spec =
     tie.close
     (tie.spec
-    byte-at-requires
-    byte-at-requires-2
-    byte-at-requires-3
-    byte-at-requires-4
-    byte-at-requires-5
-    byte-at-requires-6
-    byte-at-requires-7
-    byte-at-requires-8
-    byte-at-requires-9
+    (λ c κs. search needs)
+    (λ c κs. search needs)
+    (λ c κs. search needs)
+    (λ c κs. search needs)
+    (λ c κs. search needs)
+    (λ c κs. search needs)
+    (λ c κs. search needs)
+    (λ c κs. search needs)
+    (λ c κs. search needs)
     returns)

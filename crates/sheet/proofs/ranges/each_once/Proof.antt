@@ -14,18 +14,6 @@ Inv-loop sheet channels all₀ channel₀ all channel = (channel ≤ channels) �
 abbrev μ-loop : tie.MeasureT-loop
 μ-loop sheet channels all₀ channel₀ all channel = channels - channel
 
-loop-holds : tie.Need-loop-holds Inv-loop μ-loop
-loop-holds c = search needs
-
-record-count-requires : tie.Need-record-count-requires Inv-loop μ-loop
-record-count-requires c κs = search needs
-
-add-channel : tie.Need-add-channel Inv-loop μ-loop
-add-channel c = search needs
-
-loop-less : tie.Need-loop-less Inv-loop μ-loop
-loop-less c = search needs
-
 loop-again : tie.Need-loop-again Inv-loop μ-loop
 loop-again c = (search needs, rw (add-one, c .record-count .ensures, c .before .before .loop .inv .1))
 
@@ -40,9 +28,9 @@ each-once-spec =
     (tie.spec
     Inv-loop
     μ-loop
-    loop-holds
-    record-count-requires
-    add-channel
-    loop-less
+    (λ c. search needs)
+    (λ c κs. search needs)
+    (λ c. search needs)
+    (λ c. search needs)
     loop-again
     returns)

@@ -3,11 +3,9 @@ use borrow.Author.Needs.{needs}
 use Rattle.sheet.proofs.ranges.end_in_range.Statement.{statement}
 use Rattle.sheet.proofs.ranges.end_in_range.Tie as tie
 
-full-end-requires : tie.Need-full-end-requires
-full-end-requires c κs = search needs
-
 returns : tie.Need-returns
 returns c = cc
 
 pub end-in-range-spec : {M : Type 1} → statement M
-end-in-range-spec = tie.close (tie.spec full-end-requires returns)
+end-in-range-spec =
+    tie.close (tie.spec (λ c κs. search needs) returns)

@@ -7,11 +7,9 @@ use Rattle.sheet.proofs.ranges.full_end.Tie as tie
 returns : tie.Need-returns
 returns c = simp (lt-leb 37 _ (c .if1 .taken))
 
-sub-result : tie.Need-sub-result
-sub-result c = search needs
-
 returns-2 : tie.Need-returns-2
 returns-2 c = simp (le-leb 37 _ (c .if1 .left))
 
 pub full-end-spec : {M : Type 1} → statement M
-full-end-spec = tie.close (tie.spec returns sub-result returns-2)
+full-end-spec =
+    tie.close (tie.spec returns (λ c. search needs) returns-2)

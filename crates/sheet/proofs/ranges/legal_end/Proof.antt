@@ -3,11 +3,9 @@ use borrow.Author.Needs.{needs}
 use Rattle.sheet.proofs.ranges.legal_end.Statement.{statement}
 use Rattle.sheet.proofs.ranges.legal_end.Tie as tie
 
-full-end-requires : tie.Need-full-end-requires
-full-end-requires c κs = search needs
-
 returns : tie.Need-returns
 returns c = cc
 
 pub legal-end-spec : {M : Type 1} → statement M
-legal-end-spec = tie.close (tie.spec full-end-requires returns)
+legal-end-spec =
+    tie.close (tie.spec (λ c κs. search needs) returns)

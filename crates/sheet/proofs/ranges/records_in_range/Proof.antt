@@ -21,23 +21,8 @@ abbrev μ-loop : tie.MeasureT-loop
 loop-holds : tie.Need-loop-holds Inv-loop μ-loop
 loop-holds c = (c .before .pre, refl)
 
-record-end-requires : tie.Need-record-end-requires Inv-loop μ-loop
-record-end-requires c κs = search needs
-
-sub-bytes : tie.Need-sub-bytes Inv-loop μ-loop
-sub-bytes c = search needs
-
-part-bytes-start : tie.Need-part-bytes-start Inv-loop μ-loop
-part-bytes-start c = search needs
-
-part-bytes-end : tie.Need-part-bytes-end Inv-loop μ-loop
-part-bytes-end c = search needs
-
 record-in-range-requires : tie.Need-record-in-range-requires Inv-loop μ-loop
 record-in-range-requires c κs = eqb-true _ _ (every-parts isWhole (c .before .record-end .ensures .split) (c .before .before .before .loop .inv .0) .0)
-
-loop-less : tie.Need-loop-less Inv-loop μ-loop
-loop-less c = search needs
 
 loop-again : tie.Need-loop-again Inv-loop μ-loop
 loop-again c =
@@ -59,11 +44,11 @@ records-in-range-spec =
     Inv-loop
     μ-loop
     loop-holds
-    record-end-requires
-    sub-bytes
-    part-bytes-start
-    part-bytes-end
+    (λ c κs. search needs)
+    (λ c. search needs)
+    (λ c. search needs)
+    (λ c. search needs)
     record-in-range-requires
-    loop-less
+    (λ c. search needs)
     loop-again
     returns)

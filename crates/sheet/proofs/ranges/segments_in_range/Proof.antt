@@ -14,18 +14,6 @@ Inv-loop bytes nseg all₀ i₀ all i = (i ≤ nseg) × (all ≡ allBelow i (seg
 abbrev μ-loop : tie.MeasureT-loop
 μ-loop bytes nseg all₀ i₀ all i = nseg - i
 
-loop-holds : tie.Need-loop-holds Inv-loop μ-loop
-loop-holds c = search needs
-
-segment-in-range-requires : tie.Need-segment-in-range-requires Inv-loop μ-loop
-segment-in-range-requires c κs = search needs
-
-add-i : tie.Need-add-i Inv-loop μ-loop
-add-i c = search needs
-
-loop-less : tie.Need-loop-less Inv-loop μ-loop
-loop-less c = search needs
-
 loop-again : tie.Need-loop-again Inv-loop μ-loop
 loop-again c = (search needs, rw (add-one, c .segment-in-range .ensures, c .before .before .loop .inv .1))
 
@@ -40,9 +28,9 @@ segments-in-range-spec =
     (tie.spec
     Inv-loop
     μ-loop
-    loop-holds
-    segment-in-range-requires
-    add-i
-    loop-less
+    (λ c. search needs)
+    (λ c κs. search needs)
+    (λ c. search needs)
+    (λ c. search needs)
     loop-again
     returns)

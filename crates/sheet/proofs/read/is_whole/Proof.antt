@@ -3,11 +3,9 @@ use borrow.Author.Needs.{needs}
 use Rattle.sheet.proofs.read.is_whole.Statement.{statement}
 use Rattle.sheet.proofs.read.is_whole.Tie as tie
 
-record-size-requires : tie.Need-record-size-requires
-record-size-requires c κs = search needs
-
 returns : tie.Need-returns
 returns c = cc
 
 pub is-whole-spec : {M : Type 1} → statement M
-is-whole-spec = tie.close (tie.spec record-size-requires returns)
+is-whole-spec =
+    tie.close (tie.spec (λ c κs. search needs) returns)

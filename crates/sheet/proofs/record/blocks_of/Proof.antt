@@ -3,24 +3,6 @@ use borrow.Author.Needs.{needs}
 use Rattle.sheet.proofs.record.blocks_of.Statement.{statement}
 use Rattle.sheet.proofs.record.blocks_of.Tie as tie
 
-block-at-requires : tie.Need-block-at-requires
-block-at-requires c κs = search needs
-
-block-at-requires-2 : tie.Need-block-at-requires-2
-block-at-requires-2 c κs = search needs
-
-block-at-requires-3 : tie.Need-block-at-requires-3
-block-at-requires-3 c κs = search needs
-
-block-at-requires-4 : tie.Need-block-at-requires-4
-block-at-requires-4 c κs = search needs
-
-block-at-requires-5 : tie.Need-block-at-requires-5
-block-at-requires-5 c κs = search needs
-
-block-at-requires-6 : tie.Need-block-at-requires-6
-block-at-requires-6 c κs = search needs
-
 returns : tie.Need-returns
 returns c = cc
 
@@ -28,10 +10,10 @@ pub blocks-of-spec : {M : Type 1} → statement M
 blocks-of-spec =
     tie.close
     (tie.spec
-    block-at-requires
-    block-at-requires-2
-    block-at-requires-3
-    block-at-requires-4
-    block-at-requires-5
-    block-at-requires-6
+    (λ c κs. search needs)
+    (λ c κs. search needs)
+    (λ c κs. search needs)
+    (λ c κs. search needs)
+    (λ c κs. search needs)
+    (λ c κs. search needs)
     returns)

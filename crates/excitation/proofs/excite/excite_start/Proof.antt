@@ -1,0 +1,62 @@
+-- Each turn fills the excitation of one of bands 0 to 2.
+use Prim.Native.Nat.{_-_, _≤_}
+use mathlib.Core.Path.{_≡_}
+use native.Mathlib.Omega.{arith}
+use borrow.Author.Needs.{needs}
+use Rattle.excitation.specs.Held.{after}
+use Rattle.excitation.specs.FrontLaws.{front-none}
+use Rattle.excitation.proofs.Exciting.{Excited, excited-more}
+use Rattle.excitation.proofs.excite.excite_start.Statement.{statement}
+use Rattle.excitation.proofs.excite.excite_start.Tie as tie
+
+abbrev Inv-loop : tie.InvT-loop
+Inv-loop p lfe powers excites₀ leaks₀ band₀ excites leaks band = (band ≤ 3) × Excited p lfe powers excites₀ leaks band excites
+
+abbrev μ-loop : tie.MeasureT-loop
+μ-loop p lfe powers excites₀ leaks₀ band₀ excites leaks band = 3 - band
+
+loop-holds : tie.Need-loop-holds Inv-loop μ-loop
+unfolding after
+loop-holds c = (omega arith, record { leaks-are = c .begin-leaks .ensures; filled = front-none _ _; long = c .before .before .pre .0 .1 })
+
+first-leaks-requires : tie.Need-first-leaks-requires Inv-loop μ-loop
+first-leaks-requires c κs =
+    let r = c .before .before .before .before .before .before .pre .1 in
+    (r _, r _, omega arith)
+
+slice-write-excites : tie.Need-slice-write-excites Inv-loop μ-loop
+slice-write-excites c = omega (arith, c .before .before .before .before .loop .inv .1 .long)
+
+loop-again : tie.Need-loop-again Inv-loop μ-loop
+loop-again c = (omega arith, excited-more _ _ _ _ _ _ _ _ (c .before .before .before .before .before .before .before .pre .0 .1) (omega arith) (c .before .before .before .before .loop .inv .1) (c .first-leaks .ensures))
+
+same-length : tie.Need-same-length Inv-loop μ-loop
+same-length c = omega (arith, c .before .loop .inv .1 .long, c .before .before .before .before .pre .0 .1)
+
+returns : tie.Need-returns Inv-loop μ-loop
+returns c =
+    let x = c .before .loop .inv .1 in
+    let e : c .before .loop .band ≡ 3 = omega arith in
+    (rw e at (x .leaks-are), rw e at (x .filled))
+
+pub excite-start-spec : {M : Type 1} → statement M
+excite-start-spec =
+    tie.close
+    (tie.spec
+    Inv-loop
+    μ-loop
+    (λ c κs. search needs)
+    loop-holds
+    (λ c. omega arith)
+    (λ c. omega arith)
+    (λ c. omega arith)
+    (λ c. omega arith)
+    (λ c. omega arith)
+    first-leaks-requires
+    (λ c. omega arith)
+    slice-write-excites
+    (λ c. omega arith)
+    (λ c. omega arith)
+    loop-again
+    same-length
+    returns)

@@ -1,0 +1,93 @@
+-- The tests of causes 4 and 5 as the code makes them are those of the definitions.
+use Prim.Native.Nat.{ℕ, zero, suc, _+_, _-_, _*_, _≤_, _<_}
+use mathlib.Core.Path.{_≡_, refl, sym, ap, ap₂}
+use mathlib.Core.Bool.{true, false, cond, true≢false}
+use mathlib.Core.List.{List}
+use native.Mathlib.Numerals.{add-one}
+use native.Mathlib.Omega.{arith}
+use lib.Dec.{eqb}
+use lib.ListN.{length, take, drop, getD, drop-of-length-le}
+use lib.Seq.{drop-cons}
+use borrow.Author.Tests.{eq-eqb, ne-eqb}
+use Rattle.bits.specs.Parts.{piece}
+use Rattle.bits.specs.Refusal as refusal
+use Rattle.mantissas.specs.Stream.{coded}
+use Rattle.shaping.specs.Passes.{isSpan}
+use Rattle.shaping.specs.Shaped.{shapedFor}
+use Rattle.sheet.specs.Sheet.{checkOf}
+use Rattle.frame.specs.Layout.{channels, endAt, strategyAt, spanFor, rowOf}
+use Rattle.frame.specs.Legal.{alike, partLegal, rowLegal, codesLegal}
+use Rattle.frame.specs.Reader.{earlier}
+use Rattle.frame.specs.Under.{first-new, span-known}
+use Rattle.frame_rows.specs.CleanLaws.{all-below-same}
+use Rattle.frame_rows.specs.LegalLaws.{earlier-taken}
+use Rattle.frame_rows.specs.Rows.{bapsOf, cleaned}
+use Rattle.frame_rows.specs.RowsLaws.{row-baps, row-cleaned}
+use Rattle.frame_writer.specs.Tests.{rowsCoded, alikeFrom}
+
+-- ---- codes
+
+-- clean codes under their bap are in range where the codes are
+pub rows-coded : (sheet exps codes : List ℕ) → checkOf sheet ≡ refusal.accepted → length codes ≡ 256 * channels sheet * 6
+    → rowsCoded sheet (bapsOf sheet exps) (cleaned sheet codes) ≡ codesLegal sheet exps codes
+unfolding rowsCoded codesLegal
+rows-coded sheet exps codes accepted long =
+    all-below-same 6 _ _ (λ b h. ap₂ coded (row-baps sheet exps b h) (row-cleaned sheet codes accepted long b h))
+
+-- ---- two lists, from an entry on: what is left decides
+
+pub alike-start : (xs ys : List ℕ) → alikeFrom 0 xs ys ≡ alike xs ys
+unfolding alikeFrom
+alike-start xs ys = refl
+
+alike-at : (i : ℕ) (xs ys : List ℕ) → i < length xs → i < length ys → alikeFrom i xs ys ≡ cond (eqb (getD xs i 0) (getD ys i 0)) (alikeFrom (i + 1) xs ys) false
+unfolding alikeFrom alike
+alike-at i xs ys h l = rw (drop-cons xs i 0 h, drop-cons ys i 0 l, add-one)
+
+pub alike-next : (i : ℕ) (xs ys : List ℕ) → i < length xs → i < length ys → getD xs i 0 ≡ getD ys i 0 → alikeFrom (i + 1) xs ys ≡ alikeFrom i xs ys
+alike-next i xs ys h l e = rw (alike-at i xs ys h l, eq-eqb (getD xs i 0) (getD ys i 0) e)
+
+pub alike-differs : (i : ℕ) (xs ys : List ℕ) → i < length xs → i < length ys → (getD xs i 0 ≡ getD ys i 0 → ⊥) → false ≡ alikeFrom i xs ys
+alike-differs i xs ys h l e = rw (alike-at i xs ys h l, ne-eqb (getD xs i 0) (getD ys i 0) e)
+
+pub alike-end : (i : ℕ) (xs ys : List ℕ) → length xs ≤ i → length ys ≤ i → true ≡ alikeFrom i xs ys
+unfolding alikeFrom alike
+alike-end i xs ys h l = rw (drop-of-length-le xs h, drop-of-length-le ys l)
+
+-- ---- exponents
+
+pub part-reuse : (s end : ℕ) (old part : List ℕ) → s ≡ 0 → alike (take end old) (take end part) ≡ partLegal s end old part
+unfolding partLegal
+part-reuse s end old part e = rw e
+
+pub part-new : (s end : ℕ) (old part : List ℕ) → (s ≡ 0 → ⊥) → shapedFor (spanFor s - 1) (take end part) ≡ partLegal s end old part
+unfolding partLegal
+part-new zero end old part h = absurd (h refl)
+part-new (suc s) end old part h = refl
+
+some-span : (span : ℕ) → isSpan span ≡ true → 1 ≤ span
+some-span zero h = absurd (true≢false (sym h))
+some-span (suc span) h = omega arith
+
+pub span-least : (s : ℕ) → (s ≡ 0 → ⊥) → 1 ≤ spanFor s
+span-least s h = some-span (spanFor s) (span-known s h)
+
+-- only a reuse block depends on the part before, and on what stands there below end
+part-after : (s end : ℕ) (old other part : List ℕ) → (s ≡ 0 → take end old ≡ take end other) → partLegal s end old part ≡ partLegal s end other part
+unfolding partLegal
+part-after zero end old other part h = ap (λ (l : List ℕ). alike l (take end part)) (h refl)
+part-after (suc s) end old other part h = refl
+
+-- so the block before may be taken as it stands in the buffer
+below-end : (sheet exps : List ℕ) → checkOf sheet ≡ refusal.accepted → length exps ≡ 256 * channels sheet * 6 → (b c : ℕ) → b < 6 → c < channels sheet
+    → strategyAt sheet b c ≡ 0
+    → take (endAt sheet c) (piece 256 c (rowOf sheet (b - 1) exps)) ≡ take (endAt sheet c) (piece 256 c (earlier sheet exps b))
+below-end sheet exps accepted long zero c hb hc z = absurd (first-new sheet accepted c hc z)
+below-end sheet exps accepted long (suc b) c hb hc z = let e : suc b - 1 ≡ b = omega arith in rw e (sym (earlier-taken sheet exps accepted long b c hb hc))
+
+pub row-after : (sheet exps : List ℕ) → checkOf sheet ≡ refusal.accepted → length exps ≡ 256 * channels sheet * 6 → (b : ℕ) → b < 6
+    → rowLegal sheet b (rowOf sheet (b - 1) exps) (rowOf sheet b exps) ≡ rowLegal sheet b (earlier sheet exps b) (rowOf sheet b exps)
+unfolding rowLegal
+row-after sheet exps accepted long b hb =
+    all-below-same (channels sheet) _ _
+    (λ c hc. part-after (strategyAt sheet b c) (endAt sheet c) _ _ (piece 256 c (rowOf sheet b exps)) (below-end sheet exps accepted long b c hb hc))

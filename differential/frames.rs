@@ -1,0 +1,246 @@
+//! Whole frames: from coefficients, from exponents and codes, read back, and damaged copies of the body read; and the long run over random ones.
+use crate::cases::{FILL, FILL_CODE};
+use crate::entries::{self, plain};
+use crate::spectra;
+use crate::tally::Tally;
+use rust_reference::gen::{self, Wish};
+use rust_reference::model as m;
+use rust_reference::reference as r;
+use rust_reference::rng::Rng;
+use std::time::Instant;
+
+/// More than the longest body: six blocks of five channels of 253 bins and the LFE, 16 bits each, with their exponents.
+pub const ROOM: usize = 20_500;
+
+/// The greatest fraction field at which the Rust's extraction must be the exponent field's (document 01).
+pub const COMPARED_FRACTION: u32 = (1 << 23) - 65;
+
+/// What a frame call leaves: answer, twelve counts, exponents, bap, codes, and body or bits read.
+#[derive(PartialEq, Debug)]
+pub struct Left {
+    pub answer: u32,
+    pub counts: Vec<u32>,
+    pub exps: Vec<u8>,
+    pub bap: Vec<u8>,
+    pub codes: Vec<u16>,
+    pub body: Vec<u8>,
+    pub bits: u32,
+}
+
+impl Left {
+    fn before(entries: usize, room: usize) -> Left {
+        let (exps, bap) = (vec![FILL; entries], vec![FILL; entries]);
+        Left { answer: 0, counts: vec![7; 12], exps, bap, codes: vec![FILL_CODE; entries], body: vec![FILL; room], bits: 0 }
+    }
+}
+
+fn low_halves(codes: &[u32]) -> Vec<u16> {
+    codes.iter().map(|&c| c as u16).collect()
+}
+
+fn twelve(a: &m::Answer) -> Vec<u32> {
+    [a.exp_bits, a.mant_bits].concat()
+}
+
+/// From coefficients, through the archive.
+pub fn encoded_here(sheet: &[u8], coeffs: &[f32], entries: usize, room: usize) -> Left {
+    let mut l = Left::before(entries, room);
+    let handed: Vec<f32> = coeffs.iter().map(|&x| plain(x)).collect();
+    l.answer = entries::encode_body(sheet, &handed, &mut l.exps, &mut l.bap, &mut l.codes, &mut l.body, &mut l.counts);
+    l
+}
+
+/// From coefficients, by the Rust's steps joined.
+pub fn encoded_there(sheet: &[u8], coeffs: &[f32], entries: usize, room: usize) -> Left {
+    let mut l = Left::before(entries, room);
+    let mut codes = vec![gen::FILL32; entries];
+    let a = m::encode(sheet, coeffs, &mut l.exps, &mut l.bap, &mut codes, &mut l.body);
+    Left { answer: a.number as u32, counts: twelve(&a), codes: low_halves(&codes), ..l }
+}
+
+fn written_here(sheet: &[u8], exps: &[u8], codes: &[u16], room: usize) -> Left {
+    let mut l = Left::before(0, room);
+    l.answer = entries::write_body(sheet, exps, codes, &mut l.body, &mut l.counts);
+    l
+}
+
+fn written_there(sheet: &[u8], exps: &[u8], codes: &[u16], room: usize) -> Left {
+    let mut l = Left::before(0, room);
+    let wide: Vec<u32> = codes.iter().map(|&c| c as u32).collect();
+    let a = m::write_frame(sheet, exps, &wide, &mut l.body);
+    Left { answer: a.number as u32, counts: twelve(&a), ..l }
+}
+
+fn read_here(sheet: &[u8], input: &[u8], entries: usize) -> Left {
+    let mut l = Left::before(entries, 0);
+    let mut bits = [7u32];
+    l.answer = entries::read_body(sheet, input, &mut l.exps, &mut l.bap, &mut l.codes, &mut l.counts, &mut bits);
+    Left { bits: bits[0], ..l }
+}
+
+/// The oracle's reader; the bap that it read with is the allocation of the exponents it gives.
+fn read_there(sheet: &[u8], input: &[u8], entries: usize) -> Left {
+    let mut l = Left::before(entries, 0);
+    let mut codes = vec![gen::FILL32; entries];
+    let (a, bits) = m::read_frame(sheet, input, &mut l.exps, &mut codes);
+    match (a.number, m::check_sheet(sheet)) {
+        (0, Ok(s)) => l.bap = m::baps_of(&s, &l.exps),
+        (7..=9, _) => l.bap.fill(0),
+        _ => {}
+    }
+    Left { answer: a.number as u32, counts: twelve(&a), codes: low_halves(&codes), bits, ..l }
+}
+
+fn note(tally: &mut Tally, step: &str, label: &str, sheet: &[u8], here: &Left, there: &Left) {
+    tally.step(step).case(there.answer, here == there, || {
+        let part = if here.answer != there.answer {
+            format!("answers {}, the oracle {}", here.answer, there.answer)
+        } else {
+            let parts = [
+                ("counts", here.counts == there.counts),
+                ("exponents", here.exps == there.exps),
+                ("bap", here.bap == there.bap),
+                ("codes", here.codes == there.codes),
+                ("body", here.body == there.body),
+                ("bits read", here.bits == there.bits),
+            ];
+            parts.iter().filter(|p| !p.1).map(|p| p.0).collect::<Vec<_>>().join(", ")
+        };
+        format!("{step}, {label}: {part}\n  sheet {sheet:02x?}")
+    });
+}
+
+/// The Rust's own extraction on every coefficient of a frame where document 01 demands equality; the joined steps take the exponent field.
+fn note_extraction(tally: &mut Tally, s: &m::Sheet, coeffs: &[f32]) {
+    let line = tally.step("frame: extraction by the Rust's logarithm");
+    for (block, channel) in (0..m::BLOCKS).flat_map(|b| (0..s.c()).map(move |c| (b, c))) {
+        let at = s.at(block, channel);
+        for &x in &coeffs[at..at + s.end(channel)] {
+            if x.to_bits() & 0x7f_ffff <= COMPARED_FRACTION {
+                let (here, there) = (m::exponent_of(x), r::r_extract_exponent(x));
+                line.case(0, here == there, || format!("{:08x}: {here}, the Rust {there}", x.to_bits()));
+            }
+        }
+    }
+}
+
+/// A copy of a body with one to three bits turned, cut short, or with a byte put in or taken out.
+pub fn damaged(g: &mut Rng, body: &[u8]) -> Vec<u8> {
+    let mut w = body.to_vec();
+    if w.is_empty() {
+        return w;
+    }
+    let at = g.below(w.len() as u64) as usize;
+    match g.below(5) {
+        0 => w.truncate(at),
+        1 => w.insert(at, g.next() as u8),
+        2 => {
+            w.remove(at);
+        }
+        _ => {
+            for _ in 0..g.range(1, 3) {
+                let bit = g.below(8 * w.len() as u64) as usize;
+                w[bit / 8] ^= 0x80 >> (bit % 8);
+            }
+        }
+    }
+    w
+}
+
+/// One frame through all three calls, with `damages` damaged copies of its body.
+pub fn compare(tally: &mut Tally, g: &mut Rng, label: &str, sheet: &[u8], coeffs: &[f32], damages: usize) {
+    let n = coeffs.len();
+    let there = encoded_there(sheet, coeffs, n, ROOM);
+    note(tally, "frame: encode_body", label, sheet, &encoded_here(sheet, coeffs, n, ROOM), &there);
+    let Ok(s) = m::check_sheet(sheet) else { return };
+    if there.answer != 0 {
+        return;
+    }
+    note_extraction(tally, &s, coeffs);
+    let length = there.counts.iter().sum::<u32>().div_ceil(8) as usize;
+    let body = &there.body[..length];
+    let room = length - (length > 0 && g.chance(8)) as usize; // sometimes one byte too few
+    note(
+        tally,
+        "frame: encode_body, room as needed",
+        label,
+        sheet,
+        &encoded_here(sheet, coeffs, n, room),
+        &encoded_there(sheet, coeffs, n, room),
+    );
+    let (exps, codes) = (&there.exps, &there.codes);
+    note(tally, "frame: write_body", label, sheet, &written_here(sheet, exps, codes, length), &written_there(sheet, exps, codes, length));
+    note(tally, "frame: read_body", label, sheet, &read_here(sheet, body, n), &read_there(sheet, body, n));
+    let cut = &body[..length.saturating_sub(1)];
+    note(tally, "frame: read_body, last byte cut", label, sheet, &read_here(sheet, cut, n), &read_there(sheet, cut, n));
+    for _ in 0..damages {
+        let w = damaged(g, body);
+        note(tally, "frame: read_body, damaged", label, sheet, &read_here(sheet, &w, n), &read_there(sheet, &w, n));
+    }
+}
+
+/// Puts what no call may look at from each end on.
+fn fill_from_ends(s: &m::Sheet, exps: &mut [u8], codes: &mut [u16]) {
+    for (block, channel) in (0..m::BLOCKS).flat_map(|b| (0..s.c()).map(move |c| (b, c))) {
+        let rest = s.at(block, channel) + s.end(channel)..s.at(block, channel) + m::NC;
+        exps[rest.clone()].fill(0xff);
+        codes[rest].fill(0xffff);
+    }
+}
+
+/// A frame made without coefficients: shaped exponents and any codes, with now and then one that is not legal.
+fn compare_free(tally: &mut Tally, g: &mut Rng, label: &str, s: &m::Sheet) {
+    let sheet = s.to_bytes();
+    let (mut exps, wide) = gen::free_frame(g, s);
+    let mut codes = low_halves(&wide);
+    fill_from_ends(s, &mut exps, &mut codes);
+    let at = g.below(exps.len() as u64) as usize;
+    match g.below(6) {
+        0 => exps[at] = g.range(0, 25) as u8,
+        1 => codes[at] = g.next() as u16,
+        _ => {}
+    }
+    let there = written_there(&sheet, &exps, &codes, ROOM);
+    note(tally, "frame: write_body, free codes", label, &sheet, &written_here(&sheet, &exps, &codes, ROOM), &there);
+    if there.answer == 0 {
+        let n = exps.len();
+        note(tally, "frame: read_body, free codes", label, &sheet, &read_here(&sheet, &there.body, n), &read_there(&sheet, &there.body, n));
+    }
+}
+
+/// Frame number `i` of a seed, alike wherever a run begins: a random sheet with its records in any order, a spectrum, now and then a
+/// coefficient that is not finite.
+pub fn random_frame(tally: &mut Tally, seed: u64, i: u64) {
+    let mut g = Rng::new(seed.wrapping_mul(0x9e37_79b9_7f4a_7c15).wrapping_add(i.wrapping_mul(0xd134_2543_de82_ef95)));
+    let ordered = gen::rand_sheet(&mut g, &Wish { n: None, lfe: None, max_end: 253 });
+    let mut s = ordered.clone();
+    gen::shuffle(&mut g, &mut s.records);
+    let (name, mut x) = spectra::any(&mut g, &ordered);
+    if g.chance(16) {
+        let at = g.below(x.len() as u64) as usize;
+        x[at] = g.pick(&[f32::NAN, f32::INFINITY, f32::NEG_INFINITY]);
+    }
+    let label = format!("frame {i} of seed {seed}, {name}");
+    compare(tally, &mut g, &label, &s.to_bytes(), &x, 1);
+    compare_free(tally, &mut g, &label, &ordered);
+}
+
+/// The long run: `count` random frames from number `first` on, with a line of progress each hundredth part or minute.
+pub fn soak(tally: &mut Tally, count: u64, seed: u64, first: u64) {
+    let start = Instant::now();
+    let (mut said, mut parts) = (Instant::now(), 0);
+    for done in 1..=count {
+        random_frame(tally, seed, first + done - 1);
+        let part = 100 * done / count;
+        if part > parts || said.elapsed().as_secs() >= 60 {
+            println!(
+                "{done} of {count} frames, {} cases, {} differences, {} s",
+                tally.cases(),
+                tally.differences(),
+                start.elapsed().as_secs()
+            );
+            (said, parts) = (Instant::now(), part);
+        }
+    }
+    println!("{count} frames from number {first} of seed {seed} in {:.1} s", start.elapsed().as_secs_f64());
+}
