@@ -8,7 +8,7 @@ use Rattle.tables.specs.Quantizer.{quantizationBits}
 use Rattle.mantissas.specs.Digits.{below-at}
 use Rattle.mantissas.specs.Inner.{Started}
 use Rattle.mantissas.specs.Ranges.{groupSizes}
-use Rattle.mantissas.proofs.Arrays.{sizes-long, size-listed, widths-long, width-listed, started-set, alone-zero}
+use Rattle.mantissas.proofs.Arrays.{sizes-long, size-listed, widths-long, width-listed, started-zeros, started-set, alone-zero}
 use Rattle.mantissas.proofs.Counting.{Counting, count-start, count-alone, count-new, count-old, few-bits, some-size, count-end}
 use Rattle.mantissas.proofs.count.count_part.Statement.{statement}
 use Rattle.mantissas.proofs.count.count_part.Tie as tie
@@ -32,7 +32,7 @@ loop-holds : tie.Need-loop-holds Inv-loop μ-loop
 loop-holds c =
     let sizes = c .before .group-sizes .ensures in
     let widths = c .quantization-bits-table .ensures in
-    (count-start _ _, omega arith, omega arith, search needs, sizes, widths, sizes-long _ sizes, widths-long _ widths, search needs)
+    (count-start _ _, omega arith, omega arith, search needs, sizes, widths, sizes-long _ sizes, widths-long _ widths, search (needs, started-zeros))
 
 cast-k : tie.Need-cast-k Inv-loop μ-loop
 cast-k c = omega (arith, c .shared-slice-known2 .given (c .before .before .loop .i))
