@@ -1,8 +1,14 @@
--- The formula, or the refusal.
-use borrow.Author.Tests.{le-leb, lt-leb}
-use Rattle.bits.specs.Tests.{passed, failed}
-use Rattle.shaping.specs.Groups.{groupsAnswer}
+-- The formula of the span that the test found, or the refusal.
+use mathlib.Core.Path.{_≡_, refl, ap, _∙_}
+use mathlib.Core.Bool.{true}
+use Prim.Native.Nat.{ℕ, _-_, _/_, _≤_}
+use native.Mathlib.Omega.{arith}
 use borrow.Author.Needs.{needs}
+use borrow.Author.Tests.{le-leb, lt-leb, ne-eqb}
+use Rattle.bits.specs.Answer.{gives}
+use Rattle.shaping.specs.Groups.{groupsAnswer}
+use Rattle.shaping.specs.GroupsLaws.{sharing, sharing-groups}
+use Rattle.shaping.specs.Passes.{isSpan}
 use Rattle.shaping.proofs.groups.ngrps_for_strategy.Statement.{statement}
 use Rattle.shaping.proofs.groups.ngrps_for_strategy.Tie as tie
 
@@ -10,13 +16,30 @@ returns : tie.Need-returns
 unfolding groupsAnswer
 returns c = simp (lt-leb _ 256 (c .before .if1 .taken)) (c .refused .ensures)
 
-returns-2 : tie.Need-returns-2
+-- a span that was found, by the groups of D15
+found : (end span s d15 n : ℕ) → end ≤ 256 → span ≡ s → isSpan s ≡ true → d15 ≡ (end - 1) / 3 → n ≡ sharing d15 s → gives n ≡ groupsAnswer end span
 unfolding groupsAnswer
-returns-2 c = let e = failed (c .before .before .is-span .ensures) (c .before .if2 .taken) in simp (le-leb _ 256 (c .before .before .before .if1 .left), e) (c .refused2 .ensures)
+found end span s d15 n h e i d m = rw (e, le-leb end 256 h, i, m, d) (ap gives (sharing-groups end s))
+
+returns-2 : tie.Need-returns-2
+returns-2 c =
+    let q = c .before .before .before in
+    c .accepted .ensures ∙ found _ _ 1 _ _ (q .before .if1 .left) (c .before .before .if2 .taken) refl (q .thirds .ensures) (c .before .shared .ensures .0)
 
 returns-3 : tie.Need-returns-3
+returns-3 c =
+    let q = c .before .before .before .before in
+    c .accepted2 .ensures ∙ found _ _ 2 _ _ (q .before .if1 .left) (c .before .before .if3 .taken) refl (q .thirds .ensures) (c .before .shared2 .ensures .0)
+
+returns-4 : tie.Need-returns-4
+returns-4 c =
+    let q = c .before .before .before .before .before in
+    c .accepted3 .ensures ∙ found _ _ 4 _ _ (q .before .if1 .left) (c .before .before .if4 .taken) refl (q .thirds .ensures) (c .before .shared3 .ensures .0)
+
+returns-5 : tie.Need-returns-5
 unfolding groupsAnswer
-returns-3 c = let e = passed (c .before .before .before .is-span .ensures) (c .before .before .if2 .left) in simp (le-leb _ 256 (c .before .before .before .before .if1 .left), e, ← c .before .groups-of .ensures .0) (c .accepted .ensures)
+returns-5 c =
+    simp (le-leb _ 256 (c .before .before .before .before .before .if1 .left), ne-eqb _ 1 (c .before .before .before .if2 .left), ne-eqb _ 2 (c .before .before .if3 .left), ne-eqb _ 4 (c .before .if4 .left)) (c .refused2 .ensures)
 
 pub ngrps-for-strategy-spec : {M : Type 1} → statement M
 ngrps-for-strategy-spec =
@@ -25,9 +48,17 @@ ngrps-for-strategy-spec =
     (λ c κs. search needs)
     returns
     (λ c κs. search needs)
-    (λ c κs. search needs)
-    returns-2
-    (λ c κs. search needs)
+    (λ c κs. omega arith)
     (λ c. search needs)
     (λ c κs. search needs)
-    returns-3)
+    returns-2
+    (λ c κs. omega arith)
+    (λ c. search needs)
+    (λ c κs. search needs)
+    returns-3
+    (λ c κs. omega arith)
+    (λ c. search needs)
+    (λ c κs. search needs)
+    returns-4
+    (λ c κs. search needs)
+    returns-5)
