@@ -16,7 +16,7 @@ fn call(exp: &[u8], end: usize, common: Common, channel: ChannelRecord, bap: &mu
 }
 
 // With m exponents and k baps, each of which was 165.
-pub fn sized(
+pub(crate) fn sized(
     codes: [u8; 9],
     segments: Segments,
     exponents: Exponents,
@@ -43,10 +43,10 @@ pub fn sized(
 }
 
 // With slices that end there.
-pub fn segmented(codes: [u8; 9], segments: Segments, exponents: Exponents, end: usize) {
+pub(crate) fn segmented(codes: [u8; 9], segments: Segments, exponents: Exponents, end: usize) {
     sized(codes, segments, exponents, end, end, end);
 }
 
-pub fn allocated(codes: [u8; 9], exponents: Exponents, end: usize) {
+pub(crate) fn allocated(codes: [u8; 9], exponents: Exponents, end: usize) {
     sized(codes, none(), exponents, end, end, end);
 }

@@ -25,7 +25,7 @@ fn rates(label: &[u8], value: u64, exponents: Exponents, end: usize) {
     show::end();
 }
 
-pub fn ends() {
+pub(crate) fn ends() {
     rates(b"end", 7, of_rule(SPREAD, 0), 7);
     for k in 0..73 {
         let end = 37 + 3 * k;
@@ -40,7 +40,7 @@ fn each(label: &[u8], rule: u8, count: u8, end: usize) {
     }
 }
 
-pub fn exponents() {
+pub(crate) fn exponents() {
     each(b"all bins", FLAT, 25, 253);
     each(b"loud bin", LOUD, 37, 253);
     rates(b"loud bin", 100, of_rule(LOUD, 100), 253);

@@ -35,7 +35,7 @@ pub struct Segments {
 }
 
 // No segment; those that are not there are out of range.
-pub fn none() -> Segments {
+pub(crate) fn none() -> Segments {
     Segments {
         nseg: 0,
         offst: [255; 8],
@@ -44,7 +44,7 @@ pub fn none() -> Segments {
     }
 }
 
-pub fn common_of(codes: [u8; 9]) -> Common {
+pub(crate) fn common_of(codes: [u8; 9]) -> Common {
     Common {
         fscod: codes[FSCOD],
         nfchans: 255,
@@ -58,7 +58,7 @@ pub fn common_of(codes: [u8; 9]) -> Common {
     }
 }
 
-pub fn channel_of(codes: [u8; 9], segments: Segments) -> ChannelRecord {
+pub(crate) fn channel_of(codes: [u8; 9], segments: Segments) -> ChannelRecord {
     let offst = segments.offst;
     let len = segments.len;
     let ba = segments.ba;

@@ -36,7 +36,7 @@ fn each(label: &[u8], at: usize, count: u8)
     }
 }
 
-pub fn all() {
+pub(crate) fn all() {
     each(b"fscod", FSCOD, 4);
     each(b"sdcycod", SDCYCOD, 5);
     each(b"fdcycod", FDCYCOD, 5);

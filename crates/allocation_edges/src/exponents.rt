@@ -20,7 +20,7 @@ pub const SLOPE: u8 = 4;
 // All over 0..24.
 pub const SPREAD: u8 = 5;
 
-pub fn of_rule(rule: u8, value: u8) -> Exponents {
+pub(crate) fn of_rule(rule: u8, value: u8) -> Exponents {
     Exponents {
         rule: rule,
         value: value,
@@ -30,7 +30,7 @@ pub fn of_rule(rule: u8, value: u8) -> Exponents {
 }
 
 // One value in every bin but one.
-pub fn flat_but(value: u8, at: usize, other: u8) -> Exponents {
+pub(crate) fn flat_but(value: u8, at: usize, other: u8) -> Exponents {
     Exponents {
         rule: FLAT,
         value: value,
@@ -79,7 +79,7 @@ fn exponent_at(exponents: Exponents, i: usize) -> u8 {
     (ruled(exponents.rule, wide(exponents.value), i) % 256) as u8
 }
 
-pub fn fill(exp: &mut [u8], exponents: Exponents) {
+pub(crate) fn fill(exp: &mut [u8], exponents: Exponents) {
     for i in 0..exp.len() {
         exp[i] = exponent_at(exponents, i);
     }

@@ -15,7 +15,7 @@ fn listed(label: &[u8], codes: [u8; 9], rule: u8, value: u8, end: usize) {
     show::end();
 }
 
-pub fn differences() {
+pub(crate) fn differences() {
     listed(
         b"44.1 kHz, band 25",
         [1, 0, 0, 0, 0, 0, 14, 5, 0],
@@ -77,7 +77,7 @@ fn mixture(seed: u8) {
     show::end();
 }
 
-pub fn mixtures() {
+pub(crate) fn mixtures() {
     for k in 0..36 {
         mixture(7 * k);
     }

@@ -41,7 +41,7 @@ fn distances(a: u32)
     apart(a, 1023);
 }
 
-pub fn all() {
+pub(crate) fn all() {
     line(0, 0);
     line(0, 2);
     line(3072, 0);

@@ -15,7 +15,7 @@ fn slices(label: &[u8], end: usize, m: usize, k: usize) {
     show::end();
 }
 
-pub fn ends() {
+pub(crate) fn ends() {
     slices(b"end 0", 0, 40, 40);
     slices(b"end 6", 6, 40, 40);
     slices(b"end 8", 8, 40, 40);
@@ -27,7 +27,7 @@ pub fn ends() {
     slices(b"end 2^64 - 1", 18446744073709551615, 256, 256);
 }
 
-pub fn lengths() {
+pub(crate) fn lengths() {
     slices(b"end 38, no exponent", 38, 0, 40);
     slices(b"one exponent too few", 37, 36, 40);
     slices(b"one bap too few", 37, 37, 36);
@@ -46,7 +46,7 @@ fn exponent(label: &[u8], at: usize, other: u8, end: usize, m: usize) {
     show::end();
 }
 
-pub fn exponents() {
+pub(crate) fn exponents() {
     exponent(b"first 25", 0, 25, 37, 37);
     exponent(b"last 25", 36, 25, 37, 37);
     exponent(b"last 24", 36, 24, 37, 37);
@@ -69,7 +69,7 @@ fn segments(label: &[u8], nseg: u8, offst: [u8; 8], len: [u8; 8], ba: [u8; 8]) {
     show::end();
 }
 
-pub fn ranges() {
+pub(crate) fn ranges() {
     segments(b"nseg 9", 9, [0; 8], [1; 8], [7; 8]);
     segments(b"nseg 255", 255, [0; 8], [1; 8], [7; 8]);
     segments(b"first offst 32", 1, [32; 8], [1; 8], [7; 8]);

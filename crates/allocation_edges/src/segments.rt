@@ -26,7 +26,7 @@ fn case(label: &[u8], nseg: u8, offst: [u8; 8], len: [u8; 8], ba: [u8; 8]) {
 }
 
 // The codes 0..7, and 8, which is refused.
-pub fn deltas() {
+pub(crate) fn deltas() {
     for ba in 0..9 {
         show::text(b"ba");
         show::number(ba as u64);
@@ -39,7 +39,7 @@ pub fn deltas() {
     }
 }
 
-pub fn last_band() {
+pub(crate) fn last_band() {
     case(
         b"eight segments, one band each, the eighth at band 49",
         8,
@@ -71,7 +71,7 @@ pub fn last_band() {
     case(b"up to band 367", 8, [31; 8], [15; 8], [0; 8]);
 }
 
-pub fn joined() {
+pub(crate) fn joined() {
     case(b"no segment", 0, [255; 8], [255; 8], [255; 8]);
     case(b"empty segments", 8, [0; 8], [0; 8], [7; 8]);
     case(

@@ -1,16 +1,16 @@
 // What a line is made of: a text, numbers behind blanks, a buffer.
 use libc::STDOUT_FILENO;
 
-pub fn text(label: &[u8]) {
+pub(crate) fn text(label: &[u8]) {
     io::write_all(STDOUT_FILENO, label);
 }
 
-pub fn number(n: u64) {
+pub(crate) fn number(n: u64) {
     text(b" ");
     io::print_decimal(STDOUT_FILENO, n);
 }
 
-pub fn end() {
+pub(crate) fn end() {
     text(b"\n");
 }
 
@@ -38,7 +38,7 @@ fn each(entries: &[u8]) {
 }
 
 // The sum of the entries, and the entries themselves where they are at most 40.
-pub fn buffer(entries: &[u8]) {
+pub(crate) fn buffer(entries: &[u8]) {
     number(sum(entries));
     if 40 < entries.len() {
         return;

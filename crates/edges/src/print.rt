@@ -8,7 +8,7 @@ ghost use Rattle.io.specs.Digits.{digits, Fewest};
 use libc::STDOUT_FILENO;
 
 // Puts a text as it stands.
-pub fn put_text(line: &mut [u8], at: usize, text: &[u8]) -> usize
+pub(crate) fn put_text(line: &mut [u8], at: usize, text: &[u8]) -> usize
     requires { ⌜ at + length (now text) ≤ length (now line) ⌝ }
     ensures { λ r. ⌜ r ≡ at + length (now (text .entry)) ⌝ }
     ensures { λ _. ⌜ now (line .exit) ≡ paste (now (line .entry)) at (now (text .entry)) (length (now (text .entry))) ⌝ }
@@ -22,7 +22,7 @@ pub fn put_text(line: &mut [u8], at: usize, text: &[u8]) -> usize
 }
 
 // Puts a number's decimal digits.
-pub fn put_decimal(line: &mut [u8], at: usize, n: u64) -> usize
+pub(crate) fn put_decimal(line: &mut [u8], at: usize, n: u64) -> usize
     requires { ⌜ at + 20 ≤ length (now line) ⌝ }
     ensures { λ r. ⌜ (at ≤ r) × (r ≤ at + 20) ⌝ }
     ensures { λ r. ⌜ Fewest 10 1 n (r - at) ⌝ }
@@ -34,7 +34,7 @@ pub fn put_decimal(line: &mut [u8], at: usize, n: u64) -> usize
 }
 
 // Puts a number's hexadecimal digits, at least `width` of them.
-pub fn put_hex(line: &mut [u8], at: usize, n: u64, width: usize) -> usize
+pub(crate) fn put_hex(line: &mut [u8], at: usize, n: u64, width: usize) -> usize
     requires { ⌜ at + 16 ≤ length (now line) ⌝ }
     ensures { λ r. ⌜ (at ≤ r) × (r ≤ at + 16) ⌝ }
     ensures { λ r. ⌜ Fewest 16 (min (max width 1) 16) n (r - at) ⌝ }
@@ -46,7 +46,7 @@ pub fn put_hex(line: &mut [u8], at: usize, n: u64, width: usize) -> usize
 }
 
 // Writes the line and its end to standard output.
-pub fn write_line(line: &[u8]) {
+pub(crate) fn write_line(line: &[u8]) {
     io::write_all(STDOUT_FILENO, line);
     io::write_all(STDOUT_FILENO, b"\n");
 }

@@ -191,7 +191,7 @@ fn levels() {
 }
 
 // Prints all tables in the standard's order.
-pub fn all() {
+pub(crate) fn all() {
     parameters();
     bands();
     masking();

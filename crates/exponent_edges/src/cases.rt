@@ -14,7 +14,7 @@ fn ruled(rule: usize, i: usize) -> u8 {
     (i % 256 * 37 % 256) as u8
 }
 
-pub fn fill(exp: &mut [u8], rule: usize) {
+pub(crate) fn fill(exp: &mut [u8], rule: usize) {
     for i in 0..exp.len() {
         exp[i] = ruled(rule, i);
     }

@@ -85,7 +85,7 @@ fn ruled(rule: usize) {
     sized(rule, 253, 4, 19);
 }
 
-pub fn rules() {
+pub(crate) fn rules() {
     ruled(0);
     ruled(1);
     ruled(2);
@@ -93,7 +93,7 @@ pub fn rules() {
 }
 
 // Ends and spans that are refused.
-pub fn refused() {
+pub(crate) fn refused() {
     coded(2, 0, 1, 80, 80);
     coded(2, 6, 1, 80, 80);
     coded(2, 8, 1, 80, 80);
@@ -122,7 +122,7 @@ fn written(exp: &[u8], end: usize, grpsize: usize, room: usize) {
 }
 
 // Shaped, and next to it; a slice that does not reach to end; two faults.
-pub fn not_shaped() {
+pub(crate) fn not_shaped() {
     written(&[15, 17, 19, 21, 23, 24, 24], 7, 1, 3);
     written(&[16, 17, 19, 21, 23, 24, 24], 7, 1, 3);
     written(&[15, 18, 19, 21, 23, 24, 24], 7, 1, 3);
@@ -163,7 +163,7 @@ fn given(input: &[u8], end: usize, grpsize: usize, room: usize) {
 }
 
 // Groups of 124, 125 and 127; exponents from 0 down and from 24 up; what follows the bits is not looked at.
-pub fn groups_read() {
+pub(crate) fn groups_read() {
     given(&[15, 143, 128], 7, 1, 8);
     given(&[15, 143, 191, 255], 7, 1, 7);
     given(&[15, 160, 0], 7, 1, 8);
@@ -178,7 +178,7 @@ pub fn groups_read() {
 }
 
 // A pad is ignored, whatever it leads to; a difference is not. Ends, spans and lengths that are refused.
-pub fn pads_read() {
+pub(crate) fn pads_read() {
     given(&[33, 64], 7, 4, 8);
     given(&[32, 64], 7, 4, 8);
     given(&[33, 64], 7, 2, 8);
@@ -191,7 +191,7 @@ pub fn pads_read() {
 }
 
 // A slice holds at most 256 entries.
-pub fn long_slices() {
+pub(crate) fn long_slices() {
     let mut exp = [0u8; 257];
     written(&exp[0..256], 7, 1, 3);
     written(&exp, 7, 1, 3);

@@ -14,7 +14,7 @@ fn extract(number: usize, x: f32) {
 }
 
 // 2^-10 - 2^-34, 2^-25, 1 and others next to a power of two; 0, infinity and what is no number.
-pub fn extracted() {
+pub(crate) fn extracted() {
     extract(0, 16777215.0 / 17179869184.0);
     extract(1, 1.0 / 33554432.0);
     extract(2, 1.0);
@@ -50,7 +50,7 @@ fn groups_at(end: usize) {
     group_count(end, 0);
 }
 
-pub fn groups() {
+pub(crate) fn groups() {
     groups_at(253);
     groups_at(40);
     groups_at(37);
@@ -63,7 +63,7 @@ pub fn groups() {
 }
 
 // Every fourth bin from bin 2 on lies `high` above its span, but bin 250 lies `last` above it.
-pub fn top(i: usize, high: u8, last: u8) -> u8 {
+pub(crate) fn top(i: usize, high: u8, last: u8) -> u8 {
     if i % 4 != 2 {
         return 0;
     }
@@ -94,7 +94,7 @@ fn picked(high: u8, last: u8, size: usize, end: usize) {
 
 // Of 252 bins, 62 and bin 250 lie above their span: 62 times 2 and 4 are a cost of 128, with 5 it is 129. 62 times 3 and 4 are 190, which is
 // the most for D25.
-pub fn costs() {
+pub(crate) fn costs() {
     picked(2, 4, 252, 252);
     picked(2, 5, 252, 252);
     picked(3, 4, 252, 252);

@@ -1,26 +1,26 @@
 // What a line is made of: numbers behind blanks, and the entries of a buffer.
 use libc::STDOUT_FILENO;
 
-pub fn number(n: u32) {
+pub(crate) fn number(n: u32) {
     io::write_all(STDOUT_FILENO, b" ");
     io::print_decimal(STDOUT_FILENO, n as u64);
 }
 
 // The same for a length, an end or a span.
-pub fn place(n: usize) {
+pub(crate) fn place(n: usize) {
     io::write_all(STDOUT_FILENO, b" ");
     io::print_decimal(STDOUT_FILENO, n as u64);
 }
 
-pub fn title(text: &[u8]) {
+pub(crate) fn title(text: &[u8]) {
     io::write_all(STDOUT_FILENO, text);
 }
 
-pub fn colon() {
+pub(crate) fn colon() {
     io::write_all(STDOUT_FILENO, b":");
 }
 
-pub fn line_end() {
+pub(crate) fn line_end() {
     io::write_all(STDOUT_FILENO, b"\n");
 }
 
@@ -48,7 +48,7 @@ fn each(entries: &[u8]) {
 }
 
 // Up to 8 entries as they are, more of them as a digest.
-pub fn buffer(entries: &[u8]) {
+pub(crate) fn buffer(entries: &[u8]) {
     if entries.len() <= 8 {
         each(entries);
         return;
@@ -56,7 +56,7 @@ pub fn buffer(entries: &[u8]) {
     number(digest(entries));
 }
 
-pub fn answer(given: bits::Answer) {
+pub(crate) fn answer(given: bits::Answer) {
     number(given.refusal);
     number(given.value);
 }

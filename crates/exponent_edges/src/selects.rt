@@ -55,7 +55,7 @@ fn select(size: usize, ends: &[u16]) {
     line_end();
 }
 
-pub fn selected() {
+pub(crate) fn selected() {
     select(1536, &[253]);
     select(1536, &[0]);
     select(3072, &[256, 37]);
@@ -66,7 +66,7 @@ pub fn selected() {
 }
 
 // The number of channels, the ends, and the length of the buffer.
-pub fn refused() {
+pub(crate) fn refused() {
     select(0, &[]);
     select(1536, &[257]);
     select(1535, &[256]);

@@ -43,7 +43,7 @@ fn starred_spans() {
     quantised(&mut long, 2);
 }
 
-pub fn starred() {
+pub(crate) fn starred() {
     starred_d15();
     starred_spans();
 }
@@ -80,7 +80,7 @@ fn rules(exp: &mut [u8]) {
     spans(exp, 3);
 }
 
-pub fn length(n: usize) {
+pub(crate) fn length(n: usize) {
     let mut exp = [0u8; 257];
     if 257 < n {
         return;
@@ -92,7 +92,7 @@ fn short_length(n: u8) {
     length(n as usize);
 }
 
-pub fn lengths(sizes: &[u8]) {
+pub(crate) fn lengths(sizes: &[u8]) {
     for i in 0..sizes.len() {
         short_length(sizes[i]);
     }

@@ -61,7 +61,7 @@ fn two_channels(size: usize, below: u8, beyond: u8, at: usize, value: u8) {
     total(sheet, size, 37, below, beyond, at, value);
 }
 
-pub fn lengths() {
+pub(crate) fn lengths() {
     one_channel(1536, 1, 255, 0, 1);
     one_channel(1535, 1, 255, 0, 1);
     one_channel(1537, 1, 255, 0, 1);
@@ -74,7 +74,7 @@ pub fn lengths() {
 }
 
 // The last bap below end, the first from end on, and those of the last block.
-pub fn ends() {
+pub(crate) fn ends() {
     one_channel(1536, 1, 0, 36, 16);
     one_channel(1536, 1, 0, 37, 16);
     one_channel(1536, 1, 0, 1316, 255);
@@ -90,7 +90,7 @@ fn in_each_channel(bap: u8) {
     two_channels(3072, bap, 16, 260, 4);
 }
 
-pub fn each_bap() {
+pub(crate) fn each_bap() {
     for bap in 0..17 {
         in_each_channel(bap);
     }

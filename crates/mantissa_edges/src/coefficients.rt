@@ -12,7 +12,7 @@ fn code(pattern: u32, exponent: u32, bap: u32) {
 }
 
 // Document 01, "Edges": -1, 31/32 and -1/32.
-pub fn starred() {
+pub(crate) fn starred() {
     code(0xbf800000, 0, 6);
     code(0x3f780000, 0, 6);
     code(0xbd000000, 0, 6);
@@ -32,7 +32,7 @@ fn each_of(patterns: &[u32]) {
 }
 
 // Zeros, subnormal numbers, the ends of the range and beyond, infinities, and some levels.
-pub fn each_bap() {
+pub(crate) fn each_bap() {
     each_of(
         &[
             0x00000000,
@@ -83,7 +83,7 @@ fn around(patterns: &[u32], bap: u32) {
 }
 
 // Midway between the levels of bap 1 to 5.
-pub fn ties() {
+pub(crate) fn ties() {
     around(&[0xbeaaaaab, 0x3eaaaaab], 1);
     around(&[0xbf19999a, 0xbe4ccccd, 0x3e4ccccd, 0x3f19999a], 2);
     around(
@@ -141,7 +141,7 @@ fn fifteen_levels() {
     );
 }
 
-pub fn all_halves() {
+pub(crate) fn all_halves() {
     halves(6, 0x3d000000, 0x3f780000);
     halves(7, 0x3c800000, 0x3f7c0000);
     halves(8, 0x3c000000, 0x3f7e0000);
@@ -163,7 +163,7 @@ fn at_exponents(exponent: u32) {
     code(0x3f800000, exponent, 1);
 }
 
-pub fn exponents() {
+pub(crate) fn exponents() {
     for exponent in 0..26 {
         at_exponents(exponent);
     }

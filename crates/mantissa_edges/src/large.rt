@@ -61,7 +61,7 @@ fn round(m: usize, n: usize, room: usize) {
     write_and_read(&mut out[0..room], &mut back[0..n], &bap[0..m], &codes[0..n]);
 }
 
-pub fn streams() {
+pub(crate) fn streams() {
     round(1536, 1536, 1400);
     round(1536, 1536, 1350);
     round(1536, 1536, 1349);

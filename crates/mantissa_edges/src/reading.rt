@@ -31,7 +31,7 @@ fn each_value(bap: &[u8], count: u8, unit: u8) {
     }
 }
 
-pub fn values() {
+pub(crate) fn values() {
     each_value(&[1, 1, 1], 32, 8);
     each_value(&[2, 2, 2], 128, 2);
     each_value(&[4, 4], 128, 2);
@@ -41,7 +41,7 @@ pub fn values() {
     each_value(&[3, 5], 255, 1);
 }
 
-pub fn cut_short() {
+pub(crate) fn cut_short() {
     read(&[], &[]);
     read(&[0, 0], &[]);
     read(&[1], &[]);

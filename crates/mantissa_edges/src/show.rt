@@ -2,21 +2,21 @@
 use bits::Answer;
 use libc::STDOUT_FILENO;
 
-pub fn text(label: &[u8]) {
+pub(crate) fn text(label: &[u8]) {
     io::write_all(STDOUT_FILENO, label);
 }
 
-pub fn number(n: u64) {
+pub(crate) fn number(n: u64) {
     text(b" ");
     io::print_decimal(STDOUT_FILENO, n);
 }
 
-pub fn end() {
+pub(crate) fn end() {
     text(b"\n");
 }
 
 // The refusal's number and the value.
-pub fn answer(a: Answer) {
+pub(crate) fn answer(a: Answer) {
     number(a.refusal as u64);
     number(a.value as u64);
 }
@@ -25,7 +25,7 @@ fn byte(b: u8) {
     number(b as u64);
 }
 
-pub fn bytes(bytes: &[u8]) {
+pub(crate) fn bytes(bytes: &[u8]) {
     for i in 0..bytes.len() {
         byte(bytes[i]);
     }
@@ -35,7 +35,7 @@ fn code(c: u16) {
     number(c as u64);
 }
 
-pub fn codes(codes: &[u16]) {
+pub(crate) fn codes(codes: &[u16]) {
     for i in 0..codes.len() {
         code(codes[i]);
     }
@@ -55,7 +55,7 @@ fn plus_code(sum: u32, c: u16) -> u32 {
 }
 
 // The sum of the entries, and the sum of the sums up to each entry, modulo 2^32.
-pub fn sum_of_bytes(bytes: &[u8]) {
+pub(crate) fn sum_of_bytes(bytes: &[u8]) {
     let mut all = 0u32;
     let mut running = 0u32;
     for i in 0..bytes.len() {
@@ -65,7 +65,7 @@ pub fn sum_of_bytes(bytes: &[u8]) {
     sums(all, running);
 }
 
-pub fn sum_of_codes(codes: &[u16]) {
+pub(crate) fn sum_of_codes(codes: &[u16]) {
     let mut all = 0u32;
     let mut running = 0u32;
     for i in 0..codes.len() {
@@ -76,7 +76,7 @@ pub fn sum_of_codes(codes: &[u16]) {
 }
 
 // The six counts of a frame's blocks.
-pub fn counts(counts: [u32; 6]) {
+pub(crate) fn counts(counts: [u32; 6]) {
     number(counts[0] as u64);
     number(counts[1] as u64);
     number(counts[2] as u64);

@@ -45,7 +45,7 @@ fn written(bap: &[u8], codes: &[u16], room: usize) {
 }
 
 // Document 01, "Edges".
-pub fn starred() {
+pub(crate) fn starred() {
     written(&[1, 6, 1, 1], &[2, 3, 0, 1], 16);
     written(&[4], &[10], 16);
 }
@@ -66,7 +66,7 @@ fn of_bap(bap: u8)
     alone(bap, 65535);
 }
 
-pub fn each_bap() {
+pub(crate) fn each_bap() {
     for bap in 0..17 {
         of_bap(bap);
     }
@@ -84,7 +84,7 @@ fn first_of(bap: u8, codes: [u16; 4], n: usize) {
     written(&baps[0..n], &codes[0..n], 0);
 }
 
-pub fn members() {
+pub(crate) fn members() {
     for n in 0..5 {
         first_of(1, [1, 2, 0, 2], n);
         first_of(2, [3, 4, 1, 4], n);
@@ -93,7 +93,7 @@ pub fn members() {
     }
 }
 
-pub fn mixtures() {
+pub(crate) fn mixtures() {
     let ascending = [0, 1, 2, 3, 4, 5, 6, 7, 8, 9, 10, 11, 12, 13, 14, 15];
     let largest = LARGEST;
     written(&ascending, &largest[0..16], 16);

@@ -85,7 +85,13 @@ fn allocated(
     check::same(bap, left)
 }
 
-pub fn compute_bap(case: Case, codes: &[u8], segments: &[u8], exp: &[u8], left: &[u8]) -> bool {
+pub(crate) fn compute_bap(
+    case: Case,
+    codes: &[u8],
+    segments: &[u8],
+    exp: &[u8],
+    left: &[u8],
+) -> bool {
     let mut bap = [165u8; 512];
     let n = at_most(case.second as usize, 512);
     allocated(case, codes, segments, exp, &mut bap[0..n], left)

@@ -34,7 +34,7 @@ pub const ENDED: u32 = 1;
 pub const DAMAGED: u32 = 2;
 
 // There was no case.
-pub fn without_case(state: u32) -> Outcome {
+pub(crate) fn without_case(state: u32) -> Outcome {
     Outcome {
         state: state,
         call: 0,
@@ -68,7 +68,7 @@ fn part_length(bytes: &[u8], part: usize) -> usize
 }
 
 // The case is taken apart and replayed.
-pub fn replay(bytes: &[u8]) -> Outcome {
+pub(crate) fn replay(bytes: &[u8]) -> Outcome {
     if bytes.len() < NUMBERS {
         return without_case(DAMAGED);
     }

@@ -10,7 +10,7 @@ use bits::Answer;
 use frame::FrameAnswer;
 
 // Whether these codes are the ones of the part.
-pub fn same_codes(codes: &[u16], part: &[u8]) -> bool
+pub(crate) fn same_codes(codes: &[u16], part: &[u8]) -> bool
     ensures { λ r. ⌜ (r ≡ true → SameCodes (now (codes .entry)) (now (part .entry))) × (SameCodes (now (codes .entry)) (now (part .entry)) → r ≡ true) ⌝ }
 {
     let n = codes.len();
@@ -31,7 +31,7 @@ pub fn same_codes(codes: &[u16], part: &[u8]) -> bool
 }
 
 // Whether these counts are the ones of the part.
-pub fn same_counts(counts: &[u32], part: &[u8]) -> bool
+pub(crate) fn same_counts(counts: &[u32], part: &[u8]) -> bool
     ensures { λ r. ⌜ (r ≡ true → SameWords (now (counts .entry)) (now (part .entry))) × (SameWords (now (counts .entry)) (now (part .entry)) → r ≡ true) ⌝ }
 {
     let n = counts.len();
@@ -52,28 +52,28 @@ pub fn same_counts(counts: &[u32], part: &[u8]) -> bool
 }
 
 // The refusal alone.
-pub fn same_refusal(refusal: u32, case: Case) -> bool
+pub(crate) fn same_refusal(refusal: u32, case: Case) -> bool
     ensures { λ r. ⌜ r ≡ eqb refusal (case .refusal) ⌝ }
 {
     refusal == case.refusal
 }
 
 // The refusal and the value.
-pub fn same_answer(answer: Answer, case: Case) -> bool
+pub(crate) fn same_answer(answer: Answer, case: Case) -> bool
     ensures { λ r. ⌜ r ≡ eqb (answer .refusal) (case .refusal) && eqb (answer .value) (case .value) ⌝ }
 {
     (answer.refusal == case.refusal) & (answer.value == case.value)
 }
 
 // The refusal and the bits of the body.
-pub fn same_frame_answer(answer: FrameAnswer, case: Case) -> bool
+pub(crate) fn same_frame_answer(answer: FrameAnswer, case: Case) -> bool
     ensures { λ r. ⌜ r ≡ eqb (answer .refusal) (case .refusal) && eqb (answer .bits) (case .value) ⌝ }
 {
     (answer.refusal == case.refusal) & (answer.bits == case.value)
 }
 
 // The twelve counts where the list has them.
-pub fn same_frame_counts(answer: FrameAnswer, part: &[u8]) -> bool {
+pub(crate) fn same_frame_counts(answer: FrameAnswer, part: &[u8]) -> bool {
     if part.len() == 0 {
         return true;
     }

@@ -9,7 +9,7 @@ use crate::compare::same_refusal;
 use crate::parts::at_most;
 use crate::parts::read_codes;
 
-pub fn extract_exponent(case: Case) -> bool {
+pub(crate) fn extract_exponent(case: Case) -> bool {
     same_answer(
         shaping::extract_exponent(shaping::coefficient_of(case.first)),
         case,
@@ -26,7 +26,7 @@ fn preprocessed(case: Case, exp: &[u8], buffer: &mut [u8], left: &[u8]) -> bool
     check::same(buffer, left)
 }
 
-pub fn preprocess_d15(case: Case, exp: &[u8], left: &[u8]) -> bool {
+pub(crate) fn preprocess_d15(case: Case, exp: &[u8], left: &[u8]) -> bool {
     let mut buffer = [0u8; 512];
     let n = exp.len();
     if 512 < n {
@@ -46,7 +46,7 @@ fn quantised(case: Case, exp: &[u8], buffer: &mut [u8], left: &[u8]) -> bool
     check::same(buffer, left)
 }
 
-pub fn quantise_exponents_to_grpsize(case: Case, exp: &[u8], left: &[u8]) -> bool {
+pub(crate) fn quantise_exponents_to_grpsize(case: Case, exp: &[u8], left: &[u8]) -> bool {
     let mut buffer = [0u8; 512];
     let n = exp.len();
     if 512 < n {
@@ -55,7 +55,7 @@ pub fn quantise_exponents_to_grpsize(case: Case, exp: &[u8], left: &[u8]) -> boo
     quantised(case, exp, &mut buffer[0..n], left)
 }
 
-pub fn ngrps_for_strategy(case: Case) -> bool {
+pub(crate) fn ngrps_for_strategy(case: Case) -> bool {
     same_answer(
         shaping::ngrps_for_strategy(case.first as usize, case.second as usize),
         case,
@@ -75,7 +75,7 @@ fn written(case: Case, exp: &[u8], out: &mut [u8], left: &[u8]) -> bool {
     check::same(out, left)
 }
 
-pub fn write_exponents_grouped(case: Case, exp: &[u8], left: &[u8]) -> bool {
+pub(crate) fn write_exponents_grouped(case: Case, exp: &[u8], left: &[u8]) -> bool {
     let mut out = [165u8; 1024];
     let n = at_most(case.third as usize, 1024);
     written(case, exp, &mut out[0..n], left)
@@ -94,13 +94,13 @@ fn read(case: Case, input: &[u8], exp: &mut [u8], left: &[u8]) -> bool {
     check::same(exp, left)
 }
 
-pub fn read_exponents_grouped(case: Case, input: &[u8], left: &[u8]) -> bool {
+pub(crate) fn read_exponents_grouped(case: Case, input: &[u8], left: &[u8]) -> bool {
     let mut exp = [165u8; 512];
     let n = at_most(case.third as usize, 512);
     read(case, input, &mut exp[0..n], left)
 }
 
-pub fn pick_strategy_for_block(case: Case, exp: &[u8]) -> bool {
+pub(crate) fn pick_strategy_for_block(case: Case, exp: &[u8]) -> bool {
     same_answer(
         shaping::pick_strategy_for_block(exp, case.first as usize),
         case,
@@ -136,7 +136,12 @@ fn selected(case: Case, part: &[u8], ends: &mut [u16], exps: &[u8], left: &[u8])
     same_rows(shaping::select_exp_strategies_per_end(exps, ends), left)
 }
 
-pub fn select_exp_strategies_per_end(case: Case, part: &[u8], exps: &[u8], left: &[u8]) -> bool {
+pub(crate) fn select_exp_strategies_per_end(
+    case: Case,
+    part: &[u8],
+    exps: &[u8],
+    left: &[u8],
+) -> bool {
     let mut ends = [0u16; 16];
     let n = at_most(part.len() / 2, 16);
     selected(case, part, &mut ends[0..n], exps, left)

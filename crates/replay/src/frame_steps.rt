@@ -96,7 +96,7 @@ fn encode(
     )
 }
 
-pub fn encode_body(
+pub(crate) fn encode_body(
     case: Case,
     sheet: &[u8],
     part: &[u8],
@@ -142,7 +142,7 @@ fn written(
     same_frame_counts(answer, counts) & check::same(body, left_body)
 }
 
-pub fn write_body(
+pub(crate) fn write_body(
     case: Case,
     sheet: &[u8],
     exps: &[u8],
@@ -196,7 +196,7 @@ fn read(
         & same_codes(codes, left_codes)
 }
 
-pub fn read_body(
+pub(crate) fn read_body(
     case: Case,
     sheet: &[u8],
     input: &[u8],

@@ -51,7 +51,7 @@ fn frame_lines(ran: [u32; 17], differed: [u32; 17]) {
 }
 
 // The calls in the order of their numbers.
-pub fn all(ran: [u32; 17], differed: [u32; 17]) {
+pub(crate) fn all(ran: [u32; 17], differed: [u32; 17]) {
     line(b"check_sheet", ran[0], differed[0]);
     exponent_lines(ran, differed);
     exponent_set_lines(ran, differed);
@@ -62,6 +62,6 @@ pub fn all(ran: [u32; 17], differed: [u32; 17]) {
 }
 
 // The list stops short or has another form.
-pub fn damaged() {
+pub(crate) fn damaged() {
     text(b"damaged\n");
 }

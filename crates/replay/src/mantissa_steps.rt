@@ -10,7 +10,7 @@ use crate::compare::same_refusal;
 use crate::parts::at_most;
 use crate::parts::read_codes;
 
-pub fn quantise_mantissa(case: Case) -> bool {
+pub(crate) fn quantise_mantissa(case: Case) -> bool {
     same_answer(
         quantiser::quantise_mantissa(shaping::coefficient_of(case.first), case.second, case.third),
         case,
@@ -35,7 +35,7 @@ fn written(
     check::same(out, left)
 }
 
-pub fn write_mantissa_stream(case: Case, bap: &[u8], part: &[u8], left: &[u8]) -> bool {
+pub(crate) fn write_mantissa_stream(case: Case, bap: &[u8], part: &[u8], left: &[u8]) -> bool {
     let mut codes = [0u16; 2048];
     let mut out = [165u8; 4096];
     let n = at_most(part.len() / 2, 2048);
@@ -50,13 +50,13 @@ fn read(case: Case, input: &[u8], bap: &[u8], codes: &mut [u16], left: &[u8]) ->
     same_codes(codes, left)
 }
 
-pub fn read_mantissa_stream(case: Case, input: &[u8], bap: &[u8], left: &[u8]) -> bool {
+pub(crate) fn read_mantissa_stream(case: Case, input: &[u8], bap: &[u8], left: &[u8]) -> bool {
     let mut codes = [42405u16; 2048];
     let n = at_most(case.first as usize, 2048);
     read(case, input, bap, &mut codes[0..n], left)
 }
 
-pub fn mantissa_bits_total_ends(case: Case, sheet: &[u8], bap: &[u8], left: &[u8]) -> bool {
+pub(crate) fn mantissa_bits_total_ends(case: Case, sheet: &[u8], bap: &[u8], left: &[u8]) -> bool {
     let bits = mantissas::mantissa_bits_total_ends(sheet, bap);
     if !same_refusal(bits.refusal, case) {
         return false;

@@ -43,7 +43,7 @@ fn spread(bytes: &[u8], places: &mut [u8]) {
 }
 
 // Whether the packed bytes stand for as many bytes as there are places, which then hold them.
-pub fn unpack(packed: &[u8], plain: &mut [u8]) -> bool
+pub(crate) fn unpack(packed: &[u8], plain: &mut [u8]) -> bool
     requires { ⌜ (length (now packed) ≤ 24576) × (length (now plain) ≤ 81920) ⌝ }
 {
     let mut at = 0;

@@ -6,7 +6,7 @@ ghost use lib.ListN.{length};
 ghost use Rattle.replay.specs.Entries.{codeOf, wordOf};
 
 // Four bytes, the highest first.
-pub fn word_of(first: u8, second: u8, third: u8, fourth: u8) -> u32
+pub(crate) fn word_of(first: u8, second: u8, third: u8, fourth: u8) -> u32
     ensures { λ r. ⌜ r ≡ wordOf first second third fourth ⌝ }
 {
     16777216 * wide(first) + 65536 * wide(second) + 256 * wide(third) + wide(fourth)
@@ -24,28 +24,28 @@ fn wide_code(x: u8) -> u16
     x as u16
 }
 
-pub fn code_of(high: u8, low: u8) -> u16
+pub(crate) fn code_of(high: u8, low: u8) -> u16
     ensures { λ r. ⌜ r ≡ codeOf high low ⌝ }
 {
     256 * wide_code(high) + wide_code(low)
 }
 
 // The number at four bytes.
-pub fn number_at(bytes: &[u8], at: usize) -> u32
+pub(crate) fn number_at(bytes: &[u8], at: usize) -> u32
     requires { ⌜ at + 4 ≤ length (now bytes) ⌝ }
 {
     word_of(bytes[at], bytes[at + 1], bytes[at + 2], bytes[at + 3])
 }
 
 // The lesser of a length and the room that there is. A buffer that is shorter than asked for differs from what is expected of it.
-pub fn at_most(length: usize, room: usize) -> usize
+pub(crate) fn at_most(length: usize, room: usize) -> usize
     ensures { λ r. ⌜ (r ≤ length) × (r ≤ room) ⌝ }
 {
     if length < room { length } else { room }
 }
 
 // Bytes that no entry has are left over.
-pub fn read_coefficients(bytes: &[u8], coeffs: &mut [f32])
+pub(crate) fn read_coefficients(bytes: &[u8], coeffs: &mut [f32])
     requires { ⌜ (4 * length (now coeffs) ≤ length (now bytes)) × (length (now coeffs) ≤ 9216) ⌝ }
 {
     let n = coeffs.len();
@@ -59,7 +59,7 @@ pub fn read_coefficients(bytes: &[u8], coeffs: &mut [f32])
     }
 }
 
-pub fn read_codes(bytes: &[u8], codes: &mut [u16])
+pub(crate) fn read_codes(bytes: &[u8], codes: &mut [u16])
     requires { ⌜ (2 * length (now codes) ≤ length (now bytes)) × (length (now codes) ≤ 9216) ⌝ }
 {
     let n = codes.len();

@@ -61,7 +61,7 @@ fn count(cases: &mut [u32; 17], call: usize) {
 }
 
 // Counts the cases of each call, and those that differ. Answers whether the list is whole.
-pub fn each_case(ran: &mut [u32; 17], differed: &mut [u32; 17]) -> bool {
+pub(crate) fn each_case(ran: &mut [u32; 17], differed: &mut [u32; 17]) -> bool {
     let mut left = MOST_CASES;
     while left > 0 {
         let outcome = next();

@@ -6,7 +6,7 @@ use crate::sheets::judge;
 use crate::sheets::one_channel;
 use crate::sheets::six_channels;
 
-pub fn counts() {
+pub(crate) fn counts() {
     one_channel(b"nfchans 0", 4, 0);
     one_channel(b"nfchans 2, one record", 4, 2);
     one_channel(b"lfe 1, no record of the LFE", 5, 1);
@@ -17,7 +17,7 @@ pub fn counts() {
     extended(b"eleven bytes", 0, 9, 0, 11);
 }
 
-pub fn each_once() {
+pub(crate) fn each_once() {
     each(b"last record's channel", 58, &[0, 1, 2, 3, 255]);
     edited(b"channel n, lfe 0", 5, 0);
     one_channel(b"channel n alone, lfe 0", 12, 1);
@@ -42,7 +42,7 @@ pub fn each_once() {
 }
 
 // The LFE has no segment.
-pub fn lfe() {
+pub(crate) fn lfe() {
     judge(
         b"LFE with a segment",
         b"\x00\x23\x01\x00\x01\x01\x00\x00\x00\x00\x00\x00\

@@ -4,7 +4,7 @@ ghost use Prim.Native.Nat.{_<_, _≤_};
 ghost use lib.ListN.{length};
 use libc::STDOUT_FILENO;
 
-pub fn judge(label: &[u8], sheet: &[u8]) {
+pub(crate) fn judge(label: &[u8], sheet: &[u8]) {
     io::write_all(STDOUT_FILENO, label);
     io::write_all(STDOUT_FILENO, b": ");
     io::print_decimal(STDOUT_FILENO, sheet::check_sheet(sheet) as u64);
@@ -28,7 +28,7 @@ fn put(bytes: &mut [u8], at: usize, value: u8)
 }
 
 // The first `size` bytes of a sheet of at most 80, with two bytes changed.
-pub fn changed(
+pub(crate) fn changed(
     label: &[u8],
     sheet: &[u8],
     at: usize,
@@ -67,7 +67,7 @@ fn example(bytes: &mut [u8])
 }
 
 // The example with one byte changed.
-pub fn one_channel(label: &[u8], at: usize, value: u8) {
+pub(crate) fn one_channel(label: &[u8], at: usize, value: u8) {
     let mut bytes = [0u8; 23];
     if 23 <= at {
         return;
@@ -78,7 +78,7 @@ pub fn one_channel(label: &[u8], at: usize, value: u8) {
 }
 
 // The example with its length and nseg as given, and 0 after it to `size` bytes.
-pub fn extended(label: &[u8], high: u8, low: u8, nseg: u8, size: usize) {
+pub(crate) fn extended(label: &[u8], high: u8, low: u8, nseg: u8, size: usize) {
     let mut bytes = [0u8; 65549];
     if 65549 < size {
         return;
@@ -92,7 +92,7 @@ pub fn extended(label: &[u8], high: u8, low: u8, nseg: u8, size: usize) {
 
 // The first `size` bytes of a sheet of two channels and the LFE, with two bytes changed.
 // The records are the LFE's, that of channel 1 with eight segments, that of channel 0 with one.
-pub fn part(label: &[u8], at: usize, value: u8, also: usize, other: u8, size: usize) {
+pub(crate) fn part(label: &[u8], at: usize, value: u8, also: usize, other: u8, size: usize) {
     let sheet = b"\x00\x46\x01\x01\x02\x01\x02\x01\x01\x02\x04\x0f\
         \x02\x07\x01\x00\x00\x01\x00\x00\x09\x04\x00\
         \x01\xfd\x03\x00\x02\x01\x00\x00\x0f\x07\x08\
@@ -102,11 +102,11 @@ pub fn part(label: &[u8], at: usize, value: u8, also: usize, other: u8, size: us
 }
 
 // That sheet with one byte changed, or two.
-pub fn edited(label: &[u8], at: usize, value: u8) {
+pub(crate) fn edited(label: &[u8], at: usize, value: u8) {
     part(label, at, value, at, value, 72);
 }
 
-pub fn edited_twice(label: &[u8], at: usize, value: u8, also: usize, other: u8) {
+pub(crate) fn edited_twice(label: &[u8], at: usize, value: u8, also: usize, other: u8) {
     part(label, at, value, also, other, 72);
 }
 
@@ -118,14 +118,14 @@ fn valued(name: &[u8], at: usize, value: u8) {
     edited(b"", at, value);
 }
 
-pub fn each(name: &[u8], at: usize, values: &[u8]) {
+pub(crate) fn each(name: &[u8], at: usize, values: &[u8]) {
     for i in 0..values.len() {
         valued(name, at, values[i]);
     }
 }
 
 // Five full-bandwidth channels and the LFE, from the last to the first, with one byte changed.
-pub fn six_channels(label: &[u8], at: usize, value: u8) {
+pub(crate) fn six_channels(label: &[u8], at: usize, value: u8) {
     let sheet = b"\x00\x4c\x01\x02\x05\x01\x03\x03\x03\x03\x07\x3f\
         \x05\x07\x01\x01\x01\x01\x01\x01\x0f\x07\x00\
         \x04\x28\x01\x01\x01\x01\x01\x01\x00\x00\x00\

@@ -9,7 +9,7 @@ use crate::sheets::six_channels;
 use libc::STDOUT_FILENO;
 use sheet::read::wide;
 
-pub fn heads() {
+pub(crate) fn heads() {
     edited(b"good", 2, 1);
     one_channel(b"one channel", 2, 1);
     six_channels(b"six channels", 2, 1);
@@ -30,7 +30,7 @@ fn cut(n: u8) {
     part(b", length to match", 1, n, 1, n, size);
 }
 
-pub fn cuts() {
+pub(crate) fn cuts() {
     part(b"no byte", 1, 70, 1, 70, 0);
     part(b"one byte", 1, 70, 1, 70, 1);
     for n in 0..71 {
@@ -39,7 +39,7 @@ pub fn cuts() {
 }
 
 // The segments of one channel are counted off as nseg is written.
-pub fn segment_counts() {
+pub(crate) fn segment_counts() {
     extended(b"nseg 0", 0, 21, 0, 23);
     extended(b"nseg 0, a byte more", 0, 22, 0, 24);
     extended(b"nseg 1, no segment", 0, 21, 1, 23);
@@ -53,7 +53,7 @@ pub fn segment_counts() {
 }
 
 // The length says at most 65,535, so that a sheet has at most 65,537 bytes.
-pub fn long_sheets() {
+pub(crate) fn long_sheets() {
     extended(b"65536 bytes", 255, 255, 3, 65536);
     extended(b"65537 bytes, last record cut short", 255, 255, 0, 65537);
     extended(b"65537 bytes, whole records", 255, 255, 3, 65537);
@@ -63,7 +63,7 @@ pub fn long_sheets() {
 }
 
 // The structure is looked at before any range.
-pub fn two_faults() {
+pub(crate) fn two_faults() {
     edited_twice(b"fscod 3, end 38", 3, 3, 59, 38);
     edited_twice(b"version 2, fscod 3", 2, 2, 3, 3);
     edited_twice(b"version 2, end 38", 2, 2, 59, 38);

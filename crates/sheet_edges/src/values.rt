@@ -1,7 +1,7 @@
 // Each value one below, at and one above its range.
 use crate::sheets::each;
 
-pub fn common_part() {
+pub(crate) fn common_part() {
     each(b"fscod", 3, &[0, 2, 3, 255]);
     each(b"lfe", 5, &[2, 255]);
     each(b"sdcycod", 6, &[0, 3, 4]);
@@ -13,7 +13,7 @@ pub fn common_part() {
 }
 
 // Of channel 0, and of the eighth segment of channel 1.
-pub fn records() {
+pub(crate) fn records() {
     each(
         b"end",
         59,
@@ -36,7 +36,7 @@ pub fn records() {
 }
 
 // The LFE has end 7, strategies 0 or 1, block 0 never 0.
-pub fn lfe() {
+pub(crate) fn lfe() {
     each(b"LFE end", 13, &[6, 7, 8, 37]);
     each(b"LFE block 0 strategy", 14, &[0, 1, 2, 3]);
     each(b"LFE block 3 strategy", 17, &[0, 1, 2, 3]);
