@@ -8,7 +8,7 @@ use native.Mathlib.Omega.{arith}
 use native.Mathlib.Decide.{decLe}
 use borrow.Author.Tests.{eq-eqb, ne-eqb, lt-ltb, le-ltb, ltb-false}
 use lib.Dec.{T, eqb, leb, ltb, eqb→eq, leb→le}
-use lib.Ieee.{Float, nan, inf, fin, lt, round}
+use lib.Ieee.{Float, nan, inf, lt, round}
 use lib.Ieee.Fits.{and-l, and-r}
 use lib.Ieee.Scale.{finite}
 use lib.ListN.{length, getD}
@@ -19,8 +19,8 @@ use Rattle.mantissas.specs.Ranges.{levels as codeCount, row}
 use Rattle.tables.specs.Computed.{allBelow, at-index}
 use Rattle.tables.specs.Entry.{entry}
 use Rattle.tables.specs.Quantizer.{levels, levelsFrom, levelCount, levelCounts, quantizationBits}
-use Rattle.quantiser.specs.Scale.{zero32, scaled, within}
-use Rattle.quantiser.specs.ScaleLaws.{scaled-within}
+use Rattle.quantiser.specs.Scale.{zero32, scaled}
+use Rattle.quantiser.specs.ScaleLaws.{scaled-within, within-finite}
 use Rattle.quantiser.specs.Symmetric.{nearestFrom, nearestOf, distance}
 use Rattle.quantiser.specs.SymmetricLaws.{Nearest, nearest-is}
 use Rattle.quantiser.specs.Asymmetric.{signedCode}
@@ -133,12 +133,6 @@ all-finite (v ∷ vs) t (suc k) h = all-finite vs (and-r (finite v) (allFinite v
 finite-levels : T (allBelow 5 (λ (b : ℕ). allFinite (levels (levelCount (1 + b)))))
 unfolding allFinite levels levelCount levelCounts round entry
 finite-levels = tt
-
-within-finite : (x : Float) → T (within x) → T (finite x)
-unfolding within
-within-finite nan h = h
-within-finite (inf s) h = h
-within-finite (fin s m e) h = tt
 
 pub code-nearest : (x : Float) (k b : ℕ) → T (finite x) → k ≤ 24 → 1 ≤ b → b ≤ 5 → Nearest (scaled x k) (levels (levelCount b)) (codeOf x k b)
 unfolding codeOf

@@ -2,6 +2,7 @@ pub mod Scale
 pub mod ScaleLaws
 pub mod Asymmetric
 pub mod AsymmetricLaws
+pub mod PatternLaws
 pub mod Symmetric
 pub mod SymmetricLaws
 pub mod Code

@@ -59,6 +59,12 @@ pub scaled-within : (x : Float) (k : ℕ) → T (finite x) → k ≤ 24 → T (w
 unfolding scaled
 scaled-within x k h K = held-within (mul binary32 x (ofInt binary32 (pos (2 ^ k)))) (mul-no-nan x (ofInt binary32 (pos (2 ^ k))) h (rw (pow-float k K) tt))
 
+pub within-finite : (x : Float) → T (within x) → T (finite x)
+unfolding within
+within-finite nan h = h
+within-finite (inf s) h = h
+within-finite (fin s m e) h = tt
+
 -- ---- a u32's 1 << k
 pub power-is : (k : ℕ) → k ≤ 24 → 1 * 2 ^ k % 4294967296 ≡ 2 ^ k
 power-is k h = ap (λ (n : ℕ). n % 4294967296) (one-mul (2 ^ k)) ∙ mod-eq-of-lt (lt-of-le-of-lt (pow-mono h) (lit< tt))

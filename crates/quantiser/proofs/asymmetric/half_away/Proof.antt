@@ -1,41 +1,42 @@
--- The whole part of twice the value is exact; with one more, halved, it is the nearest whole number, a half up.
+-- The whole part of twice the value is the digits shifted; with one more, halved, it is the nearest whole number, a half up.
 use borrow.Author.Needs.{needs}
-use mathlib.Core.Path.{_≡_, sym, ap, _∙_, subst}
-use Prim.Native.Nat.{_*_, _/_, _^_}
+use mathlib.Core.Path.{sym, subst}
+use Prim.Native.Nat.{_+_, _%_}
 use native.Mathlib.Omega.{arith}
 use lib.Dec.{T}
-use lib.Ieee.{Float, binary32, fits, mul, toUnsigned}
-use lib.Ieee.Positive.{num, den}
-use Rattle.quantiser.specs.AsymmetricLaws.{trunc-in, trunc-is, trunc-le, half-is}
+use lib.Ieee.{binary32, fits, toBits}
+use lib.Pow.{shr-le}
+use Rattle.quantiser.specs.AsymmetricLaws.{half-is}
+use Rattle.quantiser.specs.PatternLaws.{within-number, field-most, whole-is}
 use Rattle.quantiser.proofs.asymmetric.half_away.Statement.{statement}
 use Rattle.quantiser.proofs.asymmetric.half_away.Tie as tie
 
-in-format : (c : tie.Start) → T (fits binary32 (c .args .a))
+in-format : (c : tie.Start) → T (fits binary32 (c .args .m))
 in-format c = subst T (sym (c .good .0 .1)) tt
 
--- the whole part of a * 2 ^ w
-whole : (c : tie.After-truncating-f32-to-u64) → c .truncating-f32-to-u64 .result ≡ num (c .before .before .args .a) * 2 ^ c .before .before .args .width / den (c .before .before .args .a)
-whole c =
-    let s = c .before .before in
-    c .truncating-f32-to-u64 .ensures
-    ∙ ap (λ (x : Float). toUnsigned 64 (mul binary32 (s .args .a) x)) (c .before .power-f32 .ensures)
-    ∙ trunc-is (s .args .a) (s .args .width) (search needs) (in-format s) (s .pre .0) (s .pre .1 .0)
+float-to-bits-pattern : tie.Need-float-to-bits-pattern
+float-to-bits-pattern c = within-number (c .args .m) (c .pre .0)
 
-truncating-f32-to-u64-requires : tie.Need-truncating-f32-to-u64-requires
-truncating-f32-to-u64-requires c κs =
-    let s = c .before in
-    rw (c .power-f32 .ensures) (trunc-in (s .args .a) (s .args .width) (search needs) (in-format s) (s .pre .0) (s .pre .1 .0))
+sub-least-2 : tie.Need-sub-least-2
+sub-least-2 c = omega (arith, field-most (c .args .m) (in-format c) (c .pre .0))
 
 add-result : tie.Need-add-result
-add-result c = let l = trunc-le (c .before .before .args .a) (c .before .before .args .width) _ (c .before .before .pre .0) (search needs) (whole c) in omega arith
-
-cast-result : tie.Need-cast-result
-cast-result c = let l = trunc-le (c .before .before .args .a) (c .before .before .args .width) _ (c .before .before .pre .0) (search needs) (whole c) in omega arith
+add-result c = omega (arith, shr-le (toBits binary32 (c .before .args .m) % 8388608 + 8388608) (c .least .result))
 
 returns : tie.Need-returns
-returns c = half-is (c .before .before .args .a) (c .before .before .args .width) _ (search needs) (whole c)
+returns c =
+    let s = c .before in
+    half-is (s .args .m) (s .args .width) _ (search needs) (rw (c .least .ensures) (whole-is (s .args .m) (s .args .width) (in-format s) (s .pre .0) (search needs)))
 
 pub half-away-spec : {M : Type 1} → statement M
 half-away-spec =
     tie.close
-    (tie.spec (λ c κs. search needs) truncating-f32-to-u64-requires add-result cast-result returns)
+    (tie.spec
+    float-to-bits-pattern
+    (λ c. search needs)
+    (λ c. search needs)
+    sub-least-2
+    (λ c κs. search needs)
+    (λ c. search needs)
+    add-result
+    returns)
