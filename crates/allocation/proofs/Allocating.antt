@@ -1,12 +1,12 @@
 -- From the arrays of the bands to the allocation.
-use Prim.Native.Nat.{ℕ, zero, suc, _+_, _-_, _%_, _≤_, _<_}
+use Prim.Native.Nat.{ℕ, suc, _+_, _-_, _%_, _≤_, _<_}
 use mathlib.Core.Bool.{Bool, true, false, _&&_, _||_}
 use mathlib.Core.List.{List}
 use mathlib.Core.Path.{_≡_, refl, sym, ap, _∙_}
 use native.Mathlib.Decide.{decLt}
 use native.Mathlib.Omega.{arith}
 use lib.Dec.{T, leb, eqb, leb→le}
-use lib.ListN.{length, take, drop, getD, replicate, length-take, length-drop, length-replicate, getD-replicate, List·getD-eq-default}
+use lib.ListN.{length, take, drop, getD, replicate, length-take, length-drop, List·getD-eq-default}
 use lib.Seq.{take-length}
 use borrow.Author.Tests.{lt-ltb, le-ltb, eqb-true, leb-true}
 use Rattle.bits.specs.Parts.{tab, placed}
@@ -17,7 +17,7 @@ use Rattle.tables.specs.Computed.{allBelow, at-index}
 use Rattle.tables.specs.Entry.{entry, row}
 use Rattle.tables.specs.Masking.{hth}
 use Rattle.tables.specs.Parameters.{floortab}
-use Rattle.tables.specs.Rules.{masktab-holds-bin, masktab-most, bndtab-never-falls, bndtab-one, dbpbtab-most, hth-least, length-hth}
+use Rattle.tables.specs.Rules.{bndtab-one, dbpbtab-most, hth-least, hth-most, length-hth}
 use Rattle.sheet.specs.Ranges.{lfeEnd, fullEnd, legalEnd}
 use Rattle.sheet.specs.declared.common_part.Common.{Common}
 use Rattle.sheet.specs.declared.record.ChannelRecord.{ChannelRecord}
@@ -25,17 +25,19 @@ use Rattle.excitation.specs.BandPsd.{bndpsd}
 use Rattle.excitation.specs.BandPsdLaws.{bndpsd-most}
 use Rattle.excitation.specs.BandOrder.{Bands}
 use Rattle.excitation.specs.Front.{front}
-use Rattle.excitation.specs.FrontLaws.{length-front, getD-front, getD-behind, tab-zeros}
+use Rattle.excitation.specs.FrontLaws.{tab-zeros}
 use Rattle.excitation.specs.Held.{after, excitedBy}
 use Rattle.excitation.specs.HeldLaws.{after-le, after-same}
 use Rattle.excitation.specs.declared.excitation.Leak.{Leak}
 use Rattle.excitation.specs.declared.excitation.Leaks.{Leaks}
 use Rattle.masking.specs.Held.{heldDeltas}
+use Rattle.masking.specs.HeldLaws.{deltas-most}
 use Rattle.allocation.specs.Initialization.{dbkneeOf}
 use Rattle.allocation.specs.Allocation.{allocated, LegalCodes}
 use Rattle.allocation.specs.Held.{heldFloor, heldOffset, parametersOf, Small, levelAt, bapBy, bapAt, heldBelow, heldBin}
 use Rattle.allocation.specs.HeldLaws.{allocated-held}
 use Rattle.allocation.specs.declared.initialization.Parameters.{Parameters}
+use Rattle.allocation.proofs.ByBand.{below-bands, array-at, array-most}
 use Rattle.allocation.proofs.Filling.{tab-part}
 
 -- ---- the parameters
@@ -70,19 +72,6 @@ legal-bands end n legal b h = go (lfeEnd end) refl legal
         let sides = both (leb 37 end) (leb end 253) (both (leb 37 end && leb end 253) (eqb ((end - 1) % 3) 0) k .0) in
         absurd (omega (arith, leb-true 37 end (sides .0), b .last (omega arith), start))
 
--- a bin below end lies in one of the bands
-below-bands : (end n bin : ℕ) → end ≤ 253 → Bands end n → bin < end → entry masktab bin < n
-below-bands end n bin few b h = go (decLt (entry masktab bin) n)
-  where
-    k : ℕ
-    k = entry masktab bin
-
-    go : Dec (k < n) → k < n
-    go (yes u) = u
-    go (no u) =
-        let most = masktab-most bin in
-        absurd (omega (arith, b .last (omega (arith, u, most)), bndtab-never-falls n k (omega (arith, u)) (omega arith), masktab-holds-bin bin (omega arith) .low))
-
 -- ---- the arrays
 
 pub powers-most : (exp : List ℕ) (end : ℕ) (powers : List ℕ) → powers ≡ tab 51 (bndpsd exp 0 end) → (k : ℕ) → getD powers k 0 ≤ 3492
@@ -92,25 +81,6 @@ powers-most exp end powers e k = rw e (go (decLt k 51))
     go (yes l) = rw (getD-tab 51 (bndpsd exp 0 end) k l) (bndpsd-most exp 0 end k)
     go (no l) = rw (List·getD-eq-default (tab 51 (bndpsd exp 0 end)) 0 {n = k} (omega (arith, l, length-tab 51 (bndpsd exp 0 end)))) (omega arith)
 
--- an array that is filled up to n, from one that has the same number everywhere
-module _ (f : ℕ → ℕ) (v most n : ℕ) (xs zs : List ℕ) (few : n ≤ 50) (e : xs ≡ front f n zs) (z : zs ≡ replicate 50 v) where
-  zeros-long : length zs ≡ 50
-  zeros-long = ap length z ∙ length-replicate {A = ℕ} 50 v
-
-  pub array-long : length xs ≡ 50
-  array-long = ap length e ∙ length-front f n zs (omega (arith, zeros-long)) ∙ zeros-long
-
-  pub array-at : (k : ℕ) → k < n → getD xs k 0 ≡ f k
-  array-at k h = ap (λ (l : List ℕ). getD l k 0) e ∙ getD-front f n zs k h
-
-  pub array-most : ((k : ℕ) → f k ≤ most) → v ≤ most → (k : ℕ) → getD xs k 0 ≤ most
-  array-most h l k = rw e (go (decLt k n) (decLt k 50))
-    where
-      go : Dec (k < n) → Dec (k < 50) → getD (front f n zs) k 0 ≤ most
-      go (yes u) _ = rw (getD-front f n zs k u) (h k)
-      go (no u) (yes w) = rw (getD-behind f n zs k (omega (arith, u)), z, getD-replicate {A = ℕ} 50 k v 0 w) l
-      go (no u) (no w) = rw (getD-behind f n zs k (omega (arith, u)), List·getD-eq-default zs 0 {n = k} (omega (arith, w, zeros-long))) (omega arith)
-
 excited-most : (p : Leak) (lfe : Bool) (powers : List ℕ) → ((k : ℕ) → getD powers k 0 ≤ 3492) → (k : ℕ) → excitedBy p lfe powers k ≤ 3492
 unfolding excitedBy
 excited-most p lfe powers h k = after-le p lfe (λ i. getD powers i 0) 3492 h (suc k) .excite≤
@@ -118,7 +88,13 @@ excited-most p lfe powers h k = after-le p lfe (λ i. getD powers i 0) 3492 h (s
 pub excites-small : (p : Leak) (lfe : Bool) (powers : List ℕ) (n : ℕ) (xs zs : List ℕ) → n ≤ 50 → xs ≡ front (excitedBy p lfe powers) n zs → zs ≡ replicate 50 0
     → ((k : ℕ) → getD powers k 0 ≤ 3492) → (k : ℕ) → getD xs k 0 ≤ 8191
 excites-small p lfe powers n xs zs few e z h =
-    array-most (excitedBy p lfe powers) 0 8191 n xs zs few e z (λ k. omega (arith, excited-most p lfe powers h k)) (omega arith)
+    array-most (excitedBy p lfe powers) 0 n xs zs few e z 8191 (λ k. omega (arith, excited-most p lfe powers h k)) (omega arith)
+
+pub deltas-small : (channel : ChannelRecord) (n : ℕ) (xs zs : List ℕ) → n ≤ 50 → xs ≡ front (heldDeltas (channel .offst) (channel .len) (channel .ba) (channel .nseg)) n zs
+    → zs ≡ replicate 50 512 → ((i : ℕ) → i < channel .nseg → getD (channel .ba) i 0 ≤ 7) → (k : ℕ) → getD xs k 0 ≤ 32768
+deltas-small channel n xs zs few e z h =
+    let f = heldDeltas (channel .offst) (channel .len) (channel .ba) (channel .nseg) in
+    array-most f 512 n xs zs few e z 32768 (λ k. omega (arith, deltas-most (channel .offst) (channel .len) (channel .ba) (channel .nseg) k h)) (omega arith)
 
 pub thresholds-long : (fscod : ℕ) (table : List ℕ) → fscod ≤ 2 → table ≡ row hth fscod → length table ≡ 50
 thresholds-long fscod table h e = ap length e ∙ length-hth fscod (omega arith)
@@ -126,6 +102,10 @@ thresholds-long fscod table h e = ap length e ∙ length-hth fscod (omega arith)
 pub thresholds-least : (fscod : ℕ) (table : List ℕ) → fscod ≤ 2 → table ≡ row hth fscod → (k : ℕ) → k < 50 → 512 ≤ getD table k 0
 unfolding entry
 thresholds-least fscod table h e k l = rw e (omega (arith, hth-least fscod k (omega arith) l))
+
+pub thresholds-most : (fscod : ℕ) (table : List ℕ) → table ≡ row hth fscod → (k : ℕ) → getD table k 0 ≤ 8191
+unfolding entry
+thresholds-most fscod table e k = rw e (omega (arith, hth-most fscod k))
 
 -- ---- the whole
 
@@ -148,8 +128,8 @@ arrays common channel end exp p n powers excites added thresholds zeros nothing 
       parameters = q;
       bands = b;
       powers-are = w;
-      excites-are = array-at (excitedBy (p .leak) (lfeEnd end) powers) 0 0 n excites zeros (b .few) x z;
-      added-are = array-at (heldDeltas (channel .offst) (channel .len) (channel .ba) (channel .nseg)) 512 0 n added nothing (b .few) d o;
+      excites-are = array-at (excitedBy (p .leak) (lfeEnd end) powers) 0 n excites zeros (b .few) x z;
+      added-are = array-at (heldDeltas (channel .offst) (channel .len) (channel .ba) (channel .nseg)) 512 n added nothing (b .few) d o;
       thresholds-are = t;
     }
 

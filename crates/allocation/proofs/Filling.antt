@@ -6,7 +6,7 @@ use mathlib.Core.Path.{_≡_, refl, sym, ap, _∙_}
 use native.Mathlib.Omega.{arith}
 use lib.Bits.{bitAnd, and-high}
 use lib.Dec.{T, eqb, eqb→eq}
-use lib.ListN.{length, take, drop, getD, length-take, length-drop}
+use lib.ListN.{length, take, drop, getD, replicate, length-take, length-drop}
 use lib.Seq.{getD-take, getD-drop}
 use Rattle.bits.specs.Parts.{tab, placed}
 use Rattle.bits.specs.PartsLaws.{length-tab, tab-cong, placed-front, placed-length}
@@ -17,13 +17,15 @@ use Rattle.tables.specs.Quantizer.{baptab}
 use Rattle.tables.specs.Rules.{masktab-only}
 use Rattle.excitation.specs.Psd.{psd}
 use Rattle.excitation.specs.BandPsd.{lastbin}
-use Rattle.excitation.specs.BandOrder.{Starts}
+use Rattle.excitation.specs.BandOrder.{Bands, Starts}
 use Rattle.excitation.specs.BandOrderLaws.{starts-joined, next-bounds}
+use Rattle.excitation.specs.Front.{front}
 use Rattle.excitation.specs.FrontLaws.{tab-split}
 use Rattle.masking.specs.Held.{heldCurve}
 use Rattle.masking.specs.HeldLaws.{curve-least}
-use Rattle.allocation.specs.Held.{window, heldLowered, heldAddress, heldBap, heldLevel, heldBase, bapBy}
+use Rattle.allocation.specs.Held.{window, heldLowered, heldAddress, heldBap, heldLevel, baseOf, heldBase, baseBy, bapFrom, bapBy, BandBases}
 use Rattle.allocation.specs.declared.initialization.Parameters.{Parameters}
+use Rattle.allocation.proofs.ByBand.{below-bands, array-long, array-at, array-most, array-least}
 
 -- ---- the window
 
@@ -50,8 +52,12 @@ pub windows-read : (table : List ℕ) (n base : ℕ) (exp ys : List ℕ) → tab
     → ys ≡ tab n (λ i. getD window (base - 4 * getD exp i 0) 0)
 windows-read table n base exp ys t e = e ∙ ap (λ (l : List ℕ). tab n (λ i. getD l (base - 4 * getD exp i 0) 0)) t
 
-pub base-most : (p : Parameters) (x b h a : ℕ) → heldBase p x b h a ≤ 271
-unfolding heldBase
+base-least : (p : Parameters) (x b h a : ℕ) → 111 ≤ heldBase p x b h a
+unfolding heldBase baseOf
+base-least p x b h a = omega arith
+
+base-most : (p : Parameters) (x b h a : ℕ) → heldBase p x b h a ≤ 271
+unfolding heldBase baseOf
 base-most p x b h a = omega arith
 
 -- the parts of an address that are whole 32nds
@@ -72,11 +78,11 @@ whole-part n = omega (arith, and-high n 8 5)
 
 base-is : (p : Parameters) (x b h a e : ℕ) → e ≤ 24 → heldBase p x b h a - 4 * e - 111
     ≡ (5120 - p .floor) / 32 - bitAnd (heldCurve x b (p .dbknee) h + a + 2496 - (p .snroffset + p .floor)) 0x1fe0 / 32 - 4 * e
-unfolding heldBase
+unfolding heldBase baseOf
 base-is p x b h a e small = base-back ((5120 - p .floor) / 32) (bitAnd (heldCurve x b (p .dbknee) h + a + 2496 - (p .snroffset + p .floor)) 0x1fe0 / 32) e small
 
 -- a bin's entry of the window is its bap
-pub base-bap : (p : Parameters) (x b h a e : ℕ) → e ≤ 24 → p .floor ≤ 5120 → 512 ≤ h → getD window (heldBase p x b h a - 4 * e) 0 ≡ heldBap (heldLevel p x b h a) e
+base-bap : (p : Parameters) (x b h a e : ℕ) → e ≤ 24 → p .floor ≤ 5120 → 512 ≤ h → getD window (heldBase p x b h a - 4 * e) 0 ≡ heldBap (heldLevel p x b h a) e
 unfolding heldBap heldLevel heldLowered heldAddress
 base-bap p x b h a e small floor above =
     let m = heldCurve x b (p .dbknee) h in
@@ -87,16 +93,42 @@ base-bap p x b h a e small floor above =
     base-is p x b h a e small ∙ sym (address-parts e (p .floor) q small floor) in
     window-at (heldBase p x b h a - 4 * e) (less-most (heldBase p x b h a) (4 * e) (base-most p x b h a)) ∙ ap (λ (n : ℕ). entry baptab (min n 63)) same ∙ rw (t, whole-part (m + a + 2496 - cut))
 
+-- ---- the bases of the bands
+
+module _ (p : Parameters) (powers excites added thresholds : List ℕ) (n : ℕ) (bases zs : List ℕ) (few : n ≤ 50)
+    (e : bases ≡ front (baseBy p powers excites added thresholds) n zs) (z : zs ≡ replicate 50 111) where
+  abbrev base : ℕ → ℕ
+  base = baseBy p powers excites added thresholds
+
+  pub bases-fit : BandBases bases
+  unfolding baseBy
+  bases-fit = (
+    array-long base 111 n bases zs few e z,
+    array-least base 111 n bases zs few e z 111 (λ k. base-least p (getD excites k 0) (getD powers k 0) (getD thresholds k 0) (getD added k 0)) (omega arith),
+    array-most base 111 n bases zs few e z 271 (λ k. base-most p (getD excites k 0) (getD powers k 0) (getD thresholds k 0) (getD added k 0)) (omega arith),
+  )
+
+  -- a bin's pointer by them is that by the arrays
+  from-by : (exp : List ℕ) (end : ℕ) → p .floor ≤ 5120 → ((k : ℕ) → k < 50 → 512 ≤ getD thresholds k 0) → end ≤ 253 → Bands end n
+      → (bin : ℕ) → bin < end → getD exp bin 0 ≤ 24 → bapFrom bases exp bin ≡ bapBy p powers excites added thresholds exp bin
+  unfolding bapFrom bapBy baseBy
+  from-by exp end floor above short b bin h small =
+      let k = entry masktab bin in
+      let l : k < n = below-bands end n bin short b h in
+      rw (array-at base 111 n bases zs few e z k l) (base-bap p (getD excites k 0) (getD powers k 0) (getD thresholds k 0) (getD added k 0) (getD exp bin 0) small floor (above k (omega arith)))
+
+  pub filled-by : (exp l : List ℕ) (end : ℕ) → p .floor ≤ 5120 → ((k : ℕ) → k < 50 → 512 ≤ getD thresholds k 0) → end ≤ 253 → Bands end n
+      → ((bin : ℕ) → bin < end → getD exp bin 0 ≤ 24) → take end l ≡ tab end (bapFrom bases exp)
+      → take end l ≡ tab end (bapBy p powers excites added thresholds exp)
+  filled-by exp l end floor above short b small t = t ∙ tab-cong _ _ end (λ bin h. from-by exp end floor above short b bin h (small bin h))
+
 -- ---- bins
 
--- a bin's band by the arrays of the bands
-module _ (p : Parameters) (powers excites added thresholds exp : List ℕ) (floor : p .floor ≤ 5120) where
-  pub bap-by : (bin band base v : ℕ) → entry masktab bin ≡ band → getD exp bin 0 ≤ 24 → 512 ≤ getD thresholds band 0
-      → base ≡ heldBase p (getD excites band 0) (getD powers band 0) (getD thresholds band 0) (getD added band 0)
-      → v ≡ getD window (base - 4 * getD exp bin 0) 0 → v ≡ bapBy p powers excites added thresholds exp bin
-  unfolding bapBy
-  bap-by bin band base v k small above q e =
-      e ∙ rw (q, k) (base-bap p (getD excites band 0) (getD powers band 0) (getD thresholds band 0) (getD added band 0) (getD exp bin 0) small floor above)
+-- a bin's pointer by the base of its band
+pub from-base : (bases exp : List ℕ) (bin band v : ℕ) → entry masktab bin ≡ band → v ≡ getD window (getD bases band 0 - 4 * getD exp bin 0) 0
+    → v ≡ bapFrom bases exp bin
+unfolding bapFrom
+from-base bases exp bin band v k e = e ∙ rw k
 
 -- the band of its bins, from its first one up to next
 masktab-here : (end band bin next : ℕ) → bin ≡ entry bndtab band → next ≡ lastbin end band → (i : ℕ) → bin + i < next → entry masktab (bin + i) ≡ band
@@ -138,20 +170,17 @@ pub record Filled (f : ℕ → ℕ) (end : ℕ) (bap₀ : List ℕ) (band bin : 
 pub filled-start : (f : ℕ → ℕ) (end : ℕ) (bap₀ : List ℕ) → 28 ≤ end → take 28 bap₀ ≡ tab 28 f → Filled f end bap₀ 28 28 bap₀
 filled-start f end bap₀ h e = record { bin≤ = h; here = starts-joined end; done = e; same-length = refl }
 
-module _ (p : Parameters) (powers excites added thresholds exp : List ℕ) (floor : p .floor ≤ 5120) (end : ℕ) (bap₀ : List ℕ)
-    (few : end ≤ 253) (room : end ≤ length bap₀) (small : (i : ℕ) → i < end → getD exp i 0 ≤ 24) where
-  pub filled-more : (band bin next base : ℕ) (bap ys : List ℕ) → Filled (bapBy p powers excites added thresholds exp) end bap₀ band bin bap
-      → bin < end → next ≡ lastbin end band → 512 ≤ getD thresholds band 0
-      → base ≡ heldBase p (getD excites band 0) (getD powers band 0) (getD thresholds band 0) (getD added band 0)
-      → ys ≡ tab (length (take (next - bin) (drop bin bap))) (λ i. getD window (base - 4 * getD (take (next - bin) (drop bin exp)) i 0) 0)
-      → Filled (bapBy p powers excites added thresholds exp) end bap₀ (band + 1) next (placed bin (next - bin) bap ys)
-  filled-more band bin next base bap ys s t n above q y =
-      let f = bapBy p powers excites added thresholds exp in
+module _ (bases exp : List ℕ) (end : ℕ) (bap₀ : List ℕ) (few : end ≤ 253) (room : end ≤ length bap₀) where
+  pub filled-more : (band bin next : ℕ) (bap ys : List ℕ) → Filled (bapFrom bases exp) end bap₀ band bin bap → bin < end → next ≡ lastbin end band
+      → ys ≡ tab (length (take (next - bin) (drop bin bap))) (λ i. getD window (getD bases band 0 - 4 * getD (take (next - bin) (drop bin exp)) i 0) 0)
+      → Filled (bapFrom bases exp) end bap₀ (band + 1) next (placed bin (next - bin) bap ys)
+  filled-more band bin next bap ys s t n y =
+      let f = bapFrom bases exp in
+      let base = getD bases band 0 in
       let g = next-bounds end band bin next (s .here t .0) (s .here t .1) t few n in
       let z : length (take (next - bin) (drop bin bap)) ≡ next - bin = rw (length-take, length-drop) (omega (arith, s .same-length)) in
       let each : (i : ℕ) → i < next - bin → getD window (base - 4 * getD (take (next - bin) (drop bin exp)) i 0) 0 ≡ f (bin + i) =
-      λ i h. rw (getD-part exp bin (next - bin) i h)
-      (bap-by p powers excites added thresholds exp floor (bin + i) band base _ (masktab-here end band bin next (s .here t .1) n i (omega arith)) (small (bin + i) (omega arith)) above q refl) in
+      λ i h. rw (getD-part exp bin (next - bin) i h) (from-base bases exp (bin + i) band _ (masktab-here end band bin next (s .here t .1) n i (omega arith)) refl) in
       let d = tab-part f bap ys bin next (omega arith) (omega (arith, s .same-length)) (s .done) (y ∙ rw z (tab-cong _ _ (next - bin) each)) in
       record { bin≤ = g .middle; here = g .next-band; done = d .0; same-length = d .1 ∙ s .same-length }
 

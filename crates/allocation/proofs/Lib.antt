@@ -1,2 +1,3 @@
+pub mod ByBand
 pub mod Filling
 pub mod Allocating

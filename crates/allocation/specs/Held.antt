@@ -7,7 +7,6 @@ use mathlib.Core.Path.{_≡_}
 use lib.Bits.{bitAnd}
 use lib.Dec.{ltb}
 use lib.ListN.{length, getD, replicate}
-use Rattle.bits.specs.Parts.{tab}
 use Rattle.tables.specs.Bands.{masktab}
 use Rattle.tables.specs.Entry.{entry, row}
 use Rattle.tables.specs.Masking.{hth}
@@ -64,10 +63,23 @@ heldLevel p excite power threshold added = heldLowered (heldCurve excite power (
 unfoldable pub window : List ℕ
 window = replicate 111 0 ++ (baptab ++ replicate 97 15)
 
--- where a bin with exponent 0 of a band stands in the window; one with exponent e stands 4 e before it
+-- where a bin with exponent 0 of a band stands in the window; one with exponent e stands 4 e before it. `lower` is what the mask is lowered by,
+-- `top` the address where nothing is left of it
+unfoldable pub baseOf : ℕ → ℕ → ℕ → ℕ → ℕ → ℕ → ℕ → ℕ
+baseOf dbknee lower top excite power threshold added =
+    111 + (top - bitAnd (heldCurve excite power dbknee threshold + added + 2496 - lower) 0x1fe0 / 32)
+
+-- by the parameters
 unfoldable pub heldBase : Parameters → ℕ → ℕ → ℕ → ℕ → ℕ
-heldBase p excite power threshold added =
-    111 + ((5120 - p .floor) / 32 - bitAnd (heldCurve excite power (p .dbknee) threshold + added + 2496 - (p .snroffset + p .floor)) 0x1fe0 / 32)
+heldBase p = baseOf (p .dbknee) (p .snroffset + p .floor) ((5120 - p .floor) / 32)
+
+-- and by the arrays of the bands
+unfoldable pub baseBy : Parameters → List ℕ → List ℕ → List ℕ → List ℕ → ℕ → ℕ
+baseBy p powers excites added thresholds band = heldBase p (getD excites band 0) (getD powers band 0) (getD thresholds band 0) (getD added band 0)
+
+-- the bap of a bin by the bases of the bands
+unfoldable pub bapFrom : List ℕ → List ℕ → ℕ → ℕ
+bapFrom bases exp bin = getD window (getD bases (entry masktab bin) 0 - 4 * getD exp bin 0) 0
 
 -- ---- the whole
 
@@ -100,12 +112,18 @@ heldBin common channel end exp bin = cond (ltb bin end) (heldBelow common channe
 
 -- parameters that its sums can take
 abbrev pub Small : Parameters → Type 0
-Small p = (p .dbknee ≤ 8191) × (p .snroffset ≤ 65535) × (p .floor ≤ 5120)
+Small p = (p .dbknee ≤ 8191) × (p .snroffset ≤ 17340) × (p .floor ≤ 5120)
 
--- the arrays of the bands: an entry for each band, and one more for the psds; excitations that its sums can take, and thresholds that no delta
--- makes negative
+-- the arrays of the bands: an entry for each band, and one more for the psds; excitations, deltas and thresholds that its sums can take, and
+-- thresholds that no delta makes negative
 abbrev pub BandArrays : List ℕ → List ℕ → List ℕ → List ℕ → Type 0
 BandArrays powers excites added thresholds =
     (length powers ≡ 51) × (length excites ≡ 50) × (length added ≡ 50) × (length thresholds ≡ 50)
     × ((k : ℕ) → getD excites k 0 ≤ 8191)
+    × ((k : ℕ) → getD added k 0 ≤ 32768)
+    × ((k : ℕ) → getD thresholds k 0 ≤ 8191)
     × ((k : ℕ) → k < 50 → 512 ≤ getD thresholds k 0)
+
+-- the bases of the bands: an entry for each band, from which no exponent leaves the window
+abbrev pub BandBases : List ℕ → Type 0
+BandBases bases = (length bases ≡ 50) × ((k : ℕ) → k < 50 → 111 ≤ getD bases k 0) × ((k : ℕ) → getD bases k 0 ≤ 271)

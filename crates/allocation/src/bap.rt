@@ -4,24 +4,67 @@ ghost use Prim.Native.Nat.{ℕ, _-_, _*_, _<_, _≤_};
 ghost use lib.ListN.{getD, length, take};
 ghost use Rattle.bits.specs.Parts.{tab};
 ghost use Rattle.tables.specs.Bands as bands;
-ghost use Rattle.allocation.specs.Held.{BandArrays, Small, bapBy, heldBase};
+ghost use Rattle.excitation.specs.BandOrder.{Bands};
+ghost use Rattle.excitation.specs.Front.{front};
+ghost use Rattle.allocation.specs.Held.{BandArrays, BandBases, Small, bapBy, bapFrom, baseBy, baseOf};
 ghost use Rattle.allocation.specs.Held as definition;
 use crate::initialization::Parameters;
 use excitation::SINGLES;
 use excitation::band_end;
-use excitation::less;
+use masking::less;
 use masking::masking_curve;
 
-// Where a bin with exponent 0 of a band stands in the window. The mask less the offset and the floor is held to 0 before 0x1fe0 is applied.
-fn band_base(p: Parameters, excite: u32, power: u32, threshold: u16, added: u16) -> usize
-    requires { ⌜ Small p ⌝ }
-    requires { ⌜ excite ≤ 8191 ⌝ }
-    ensures { λ r. ⌜ (r ≡ heldBase p excite power threshold added) × (111 ≤ r) × (r ≤ 271) ⌝ }
+// Where a bin with exponent 0 of a band stands in the window. The mask less the offset and the floor, `lower`, is held to 0 before 0x1fe0 is applied;
+// `top` is the address where nothing is left of it.
+fn band_base(
+    dbknee: u16,
+    lower: u16,
+    top: u16,
+    excite: u16,
+    power: u16,
+    threshold: u16,
+    added: u16,
+) -> u16
+    requires { ⌜ (dbknee ≤ 8191) × (top ≤ 160) × (excite ≤ 8191) × (threshold ≤ 8191) × (added ≤ 32768) ⌝ }
+    ensures { λ r. ⌜ r ≡ baseOf dbknee lower top excite power threshold added ⌝ }
 {
     // the delta is 512 up, the offset and the floor are 960 and 2048 up
-    let mask = masking_curve(excite, power, p.dbknee, threshold) + (added as u32) + 2496;
-    let lowered = (less(mask, p.snroffset + p.floor) & 0x1fe0) / 32;
-    (111 + less((5120 - p.floor) / 32, lowered)) as usize
+    let mask = masking_curve(excite, power, dbknee, threshold) + added + 2496;
+    let lowered = (less(mask, lower) & 0x1fe0) / 32;
+    111 + less(top, lowered)
+}
+
+// The bases of the first bands, in a loop without a branch over numbers of one size, which can be made of vectors.
+fn band_bases(
+    bands: usize,
+    p: Parameters,
+    powers: &[u16; 51],
+    excites: &[u16; 50],
+    added: &[u16; 50],
+    hth: &[u16; 50],
+    bases: &mut [u16],
+)
+    requires { ⌜ (bands ≤ 50) × (length (now bases) ≡ 50) ⌝ }
+    requires { ⌜ Small p ⌝ }
+    requires { ⌜ BandArrays (now powers) (now excites) (now added) (now hth) ⌝ }
+    ensures { λ _. ⌜ now (bases .exit) ≡ front (baseBy p (now (powers .entry)) (now (excites .entry)) (now (added .entry)) (now (hth .entry))) bands (now (bases .entry)) ⌝ }
+{
+    let dbknee = p.dbknee as u16;
+    let lower = (p.snroffset + p.floor) as u16;
+    let top = ((5120 - p.floor) / 32) as u16;
+    let mut band = 0;
+    while band < bands {
+        bases[band] = band_base(
+            dbknee,
+            lower,
+            top,
+            excites[band],
+            powers[band],
+            hth[band],
+            added[band],
+        );
+        band += 1;
+    }
 }
 
 fn pointer(window: &[u8; 272], base: usize, exponent: u8) -> u8
@@ -45,28 +88,16 @@ fn fill_band(exp: &[u8], base: usize, window: &[u8; 272], bap: &mut [u8])
 }
 
 // The bins that are bands of their own.
-fn fill_singles(
-    exp: &[u8],
-    bins: usize,
-    p: Parameters,
-    powers: &[u32; 51],
-    excites: &[u32; 50],
-    added: &[u16; 50],
-    hth: &[u16; 50],
-    window: &[u8; 272],
-    bap: &mut [u8],
-)
+fn fill_singles(exp: &[u8], bins: usize, bases: &[u16; 50], window: &[u8; 272], bap: &mut [u8])
     requires { ⌜ (bins ≤ 28) × (bins ≤ length (now exp)) × (bins ≤ length (now bap)) ⌝ }
     requires { ⌜ ((bin : ℕ) → bin < bins → getD (now exp) bin 0 ≤ 24) ⌝ }
-    requires { ⌜ Small p ⌝ }
-    requires { ⌜ BandArrays (now powers) (now excites) (now added) (now hth) ⌝ }
+    requires { ⌜ BandBases (now bases) ⌝ }
     requires { ⌜ now window ≡ definition.window ⌝ }
-    ensures { λ _. ⌜ take bins (now (bap .exit)) ≡ tab bins (bapBy p (now (powers .entry)) (now (excites .entry)) (now (added .entry)) (now (hth .entry)) (now (exp .entry))) ⌝ }
+    ensures { λ _. ⌜ take bins (now (bap .exit)) ≡ tab bins (bapFrom (now (bases .entry)) (now (exp .entry))) ⌝ }
 {
     let mut bin = 0;
     while bin < bins {
-        let base = band_base(p, excites[bin], powers[bin], hth[bin], added[bin]);
-        bap[bin] = pointer(window, base, exp[bin]);
+        bap[bin] = pointer(window, bases[bin] as usize, exp[bin]);
         bin += 1;
     }
 }
@@ -75,29 +106,28 @@ fn fill_singles(
 fn fill_joined(
     exp: &[u8],
     end: usize,
-    p: Parameters,
-    powers: &[u32; 51],
-    excites: &[u32; 50],
-    added: &[u16; 50],
-    hth: &[u16; 50],
+    bases: &[u16; 50],
     bndsz: &[u8; 50],
     window: &[u8; 272],
     bap: &mut [u8],
 )
     requires { ⌜ (28 ≤ end) × (end ≤ 253) × (end ≤ length (now exp)) × (end ≤ length (now bap)) ⌝ }
     requires { ⌜ ((bin : ℕ) → bin < end → getD (now exp) bin 0 ≤ 24) ⌝ }
-    requires { ⌜ Small p ⌝ }
-    requires { ⌜ BandArrays (now powers) (now excites) (now added) (now hth) ⌝ }
+    requires { ⌜ BandBases (now bases) ⌝ }
     requires { ⌜ (now window ≡ definition.window) × (now bndsz ≡ bands.bndsz) ⌝ }
-    requires { ⌜ take 28 (now bap) ≡ tab 28 (bapBy p (now powers) (now excites) (now added) (now hth) (now exp)) ⌝ }
-    ensures { λ _. ⌜ take end (now (bap .exit)) ≡ tab end (bapBy p (now (powers .entry)) (now (excites .entry)) (now (added .entry)) (now (hth .entry)) (now (exp .entry))) ⌝ }
+    requires { ⌜ take 28 (now bap) ≡ tab 28 (bapFrom (now bases) (now exp)) ⌝ }
+    ensures { λ _. ⌜ take end (now (bap .exit)) ≡ tab end (bapFrom (now (bases .entry)) (now (exp .entry))) ⌝ }
 {
     let mut band = SINGLES;
     let mut bin = SINGLES;
     while bin < end {
         let next = band_end(bin, bndsz[band], end);
-        let base = band_base(p, excites[band], powers[band], hth[band], added[band]);
-        fill_band(&exp[bin..next], base, window, &mut bap[bin..next]);
+        fill_band(
+            &exp[bin..next],
+            bases[band] as usize,
+            window,
+            &mut bap[bin..next],
+        );
         bin = next;
         band += 1;
     }
@@ -107,37 +137,31 @@ fn fill_joined(
 pub fn fill_bins(
     exp: &[u8],
     end: usize,
+    bands: usize,
     p: Parameters,
-    powers: &[u32; 51],
-    excites: &[u32; 50],
+    powers: &[u16; 51],
+    excites: &[u16; 50],
     added: &[u16; 50],
     hth: &[u16; 50],
     window: &[u8; 272],
     bap: &mut [u8],
 )
     requires { ⌜ (end ≤ 253) × (end ≤ length (now exp)) × (end ≤ length (now bap)) ⌝ }
+    requires { ⌜ Bands end bands ⌝ }
     requires { ⌜ ((bin : ℕ) → bin < end → getD (now exp) bin 0 ≤ 24) ⌝ }
     requires { ⌜ Small p ⌝ }
     requires { ⌜ BandArrays (now powers) (now excites) (now added) (now hth) ⌝ }
     requires { ⌜ now window ≡ definition.window ⌝ }
     ensures { λ _. ⌜ take end (now (bap .exit)) ≡ tab end (bapBy p (now (powers .entry)) (now (excites .entry)) (now (added .entry)) (now (hth .entry)) (now (exp .entry))) ⌝ }
 {
+    // 111, the place of address 0, behind the last band: every base lies in the window
+    let mut bases = [111u16; 50];
+    band_bases(bands, p, powers, excites, added, hth, &mut bases);
     if end < SINGLES {
-        fill_singles(exp, end, p, powers, excites, added, hth, window, bap);
+        fill_singles(exp, end, &bases, window, bap);
         return;
     }
-    fill_singles(exp, SINGLES, p, powers, excites, added, hth, window, bap);
+    fill_singles(exp, SINGLES, &bases, window, bap);
     let bndsz = tables::bndsz_table();
-    fill_joined(
-        exp,
-        end,
-        p,
-        powers,
-        excites,
-        added,
-        hth,
-        &bndsz,
-        window,
-        bap,
-    );
+    fill_joined(exp, end, &bases, &bndsz, window, bap);
 }

@@ -27,16 +27,27 @@ pub fn allocate(exp: &[u8], end: usize, common: Common, channel: ChannelRecord, 
     let window = window();
     let hth = tables::hth_row(common.fscod);
     let p = initialize(common, channel);
-    let mut powers = [0u32; 51];
+    let mut powers = [0u16; 51];
     let bands = band_powers(exp, end, &mut powers);
-    let mut excites = [0u32; 50];
+    let mut excites = [0u16; 50];
     excite_bands(p.leak, end == 7, &powers, bands, &mut excites);
     let offst = channel.offst;
     let len = channel.len;
     let ba = channel.ba;
     let mut added = [512u16; 50];
     band_deltas(&offst, &len, &ba, channel.nseg as usize, bands, &mut added);
-    fill_bins(exp, end, p, &powers, &excites, &added, &hth, &window, bap);
+    fill_bins(
+        exp,
+        end,
+        bands,
+        p,
+        &powers,
+        &excites,
+        &added,
+        &hth,
+        &window,
+        bap,
+    );
     slices::fill(&mut bap[end..], 0);
 }
 

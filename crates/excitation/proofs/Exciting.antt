@@ -10,7 +10,7 @@ use lib.ListN.{length, getD, set, length-set}
 use borrow.Author.Tests.{ltb-true, ltb-false, lt-ltb, le-ltb, le-leb, ne-eqb}
 use Rattle.excitation.specs.Excitation.{calcLowcomp, steppedLowcomp}
 use Rattle.excitation.specs.Held.{nextLowcomp, nextLeak, heldExcite, nextBegun, stepped, after, excitedBy}
-use Rattle.excitation.specs.HeldLaws.{after-more}
+use Rattle.excitation.specs.HeldLaws.{after-more, after-le}
 use Rattle.excitation.specs.declared.excitation.Leak.{Leak}
 use Rattle.excitation.specs.declared.excitation.Leaks.{Leaks}
 use Rattle.excitation.specs.Front.{front}
@@ -119,6 +119,19 @@ pub excited-begun : (p : Leak) (lfe : Bool) (powers excites₀ : List ℕ) (leak
     → 7 ≤ band → Excited p lfe powers excites₀ leaks band excites → leaks .begun ≡ true
 excited-begun p lfe powers excites₀ leaks band excites h x = ap (λ (s : Leaks). s .begun) (x .leaks-are) ∙ begun-late p lfe (λ k. getD powers k 0) band h
 
+-- the leaks after the present band
+next-leaks : (p : Leak) (lfe : Bool) (powers excites₀ : List ℕ) (leaks leaks' : Leaks) (band : ℕ) (excites : List ℕ)
+    → Excited p lfe powers excites₀ leaks band excites → leaks' ≡ stepped p lfe leaks (getD powers band 0) (getD powers (band + 1) 0) band
+    → leaks' ≡ after p lfe (λ k. getD powers k 0) (band + 1)
+next-leaks p lfe powers excites₀ leaks leaks' band excites x l = l ∙ rw (x .leaks-are) (after-more p lfe (λ k. getD powers k 0) band)
+
+-- its excitation is not above the greatest psd
+pub excited-most : (p : Leak) (lfe : Bool) (powers excites₀ : List ℕ) (leaks leaks' : Leaks) (band : ℕ) (excites : List ℕ)
+    → ((k : ℕ) → getD powers k 0 ≤ 8191) → Excited p lfe powers excites₀ leaks band excites
+    → leaks' ≡ stepped p lfe leaks (getD powers band 0) (getD powers (band + 1) 0) band → leaks' .excite ≤ 8191
+excited-most p lfe powers excites₀ leaks leaks' band excites h x l =
+    rw (next-leaks p lfe powers excites₀ leaks leaks' band excites x l) (after-le p lfe (λ k. getD powers k 0) 8191 h (band + 1) .excite≤)
+
 pub excited-more : (p : Leak) (lfe : Bool) (powers excites₀ : List ℕ) (leaks leaks' : Leaks) (band : ℕ) (excites : List ℕ)
     → length excites₀ ≡ 50 → band < 50 → Excited p lfe powers excites₀ leaks band excites
     → leaks' ≡ stepped p lfe leaks (getD powers band 0) (getD powers (band + 1) 0) band
@@ -126,7 +139,7 @@ pub excited-more : (p : Leak) (lfe : Bool) (powers excites₀ : List ℕ) (leaks
 unfolding excitedBy
 excited-more p lfe powers excites₀ leaks leaks' band excites n h x l =
     let b : ℕ → ℕ = λ k. getD powers k 0 in
-    let e : leaks' ≡ after p lfe b (band + 1) = l ∙ rw (x .leaks-are) (after-more p lfe b band) in
+    let e : leaks' ≡ after p lfe b (band + 1) = next-leaks p lfe powers excites₀ leaks leaks' band excites x l in
     record {
       leaks-are = e;
       filled = front-more (excitedBy p lfe powers) band (leaks' .excite) excites excites₀ (omega arith) (x .filled) (ap (λ (s : Leaks). s .excite) (e ∙ ap (after p lfe b) (add-one band)));

@@ -14,7 +14,7 @@ use crate::excitation::high_leaks;
 use crate::excitation::low_leaks;
 
 // Bands 0 to 2: before band 3 no leak has begun. Two short loops, so that they can be written out by the compiler.
-fn excite_start(p: Leak, lfe: bool, powers: &[u32; 51], excites: &mut [u32]) -> Leaks
+fn excite_start(p: Leak, lfe: bool, powers: &[u16; 51], excites: &mut [u16]) -> Leaks
     requires { ⌜ (length (now powers) ≡ 51) × (length (now excites) ≡ 50) ⌝ }
     requires { ⌜ ((k : ℕ) → getD (now powers) k 0 ≤ 8191) ⌝ }
     ensures { λ r. ⌜ r ≡ after p lfe (λ k. getD (now (powers .entry)) k 0) 3 ⌝ }
@@ -23,15 +23,22 @@ fn excite_start(p: Leak, lfe: bool, powers: &[u32; 51], excites: &mut [u32]) -> 
     let mut leaks = begin_leaks();
     let mut band = 0;
     while band < 3 {
-        leaks = first_leaks(p, lfe, leaks, powers[band], powers[band + 1], band);
-        excites[band] = leaks.excite;
+        leaks = first_leaks(
+            p,
+            lfe,
+            leaks,
+            powers[band] as u32,
+            powers[band + 1] as u32,
+            band,
+        );
+        excites[band] = leaks.excite as u16;
         band += 1;
     }
     leaks
 }
 
 // Bands 3 to 6.
-fn excite_first(p: Leak, lfe: bool, powers: &[u32; 51], leaks: Leaks, excites: &mut [u32]) -> Leaks
+fn excite_first(p: Leak, lfe: bool, powers: &[u16; 51], leaks: Leaks, excites: &mut [u16]) -> Leaks
     requires { ⌜ (length (now powers) ≡ 51) × (length (now excites) ≡ 50) ⌝ }
     requires { ⌜ ((k : ℕ) → getD (now powers) k 0 ≤ 8191) ⌝ }
     requires { ⌜ leaks ≡ after p lfe (λ k. getD (now powers) k 0) 3 ⌝ }
@@ -42,15 +49,22 @@ fn excite_first(p: Leak, lfe: bool, powers: &[u32; 51], leaks: Leaks, excites: &
     let mut leaks = leaks;
     let mut band = 3;
     while band < 7 {
-        leaks = first_leaks(p, lfe, leaks, powers[band], powers[band + 1], band);
-        excites[band] = leaks.excite;
+        leaks = first_leaks(
+            p,
+            lfe,
+            leaks,
+            powers[band] as u32,
+            powers[band + 1] as u32,
+            band,
+        );
+        excites[band] = leaks.excite as u16;
         band += 1;
     }
     leaks
 }
 
 // Bands 7 to 21.
-fn excite_low(p: Leak, lfe: bool, powers: &[u32; 51], leaks: Leaks, excites: &mut [u32]) -> Leaks
+fn excite_low(p: Leak, lfe: bool, powers: &[u16; 51], leaks: Leaks, excites: &mut [u16]) -> Leaks
     requires { ⌜ (length (now powers) ≡ 51) × (length (now excites) ≡ 50) ⌝ }
     requires { ⌜ ((k : ℕ) → getD (now powers) k 0 ≤ 8191) ⌝ }
     requires { ⌜ leaks ≡ after p lfe (λ k. getD (now powers) k 0) 7 ⌝ }
@@ -61,8 +75,15 @@ fn excite_low(p: Leak, lfe: bool, powers: &[u32; 51], leaks: Leaks, excites: &mu
     let mut leaks = leaks;
     let mut band = 7;
     while band < 22 {
-        leaks = low_leaks(p, lfe, leaks, powers[band], powers[band + 1], band);
-        excites[band] = leaks.excite;
+        leaks = low_leaks(
+            p,
+            lfe,
+            leaks,
+            powers[band] as u32,
+            powers[band + 1] as u32,
+            band,
+        );
+        excites[band] = leaks.excite as u16;
         band += 1;
     }
     leaks
@@ -72,12 +93,13 @@ fn excite_low(p: Leak, lfe: bool, powers: &[u32; 51], leaks: Leaks, excites: &mu
 fn excite_high(
     p: Leak,
     lfe: bool,
-    powers: &[u32; 51],
+    powers: &[u16; 51],
     bands: usize,
     leaks: Leaks,
-    excites: &mut [u32],
+    excites: &mut [u16],
 )
     requires { ⌜ (22 ≤ bands) × (bands ≤ 50) × (length (now powers) ≡ 51) × (length (now excites) ≡ 50) ⌝ }
+    requires { ⌜ ((k : ℕ) → getD (now powers) k 0 ≤ 8191) ⌝ }
     requires { ⌜ leaks ≡ after p lfe (λ k. getD (now powers) k 0) 22 ⌝ }
     requires { ⌜ take 22 (now excites) ≡ tab 22 (excitedBy p lfe (now powers)) ⌝ }
     ensures { λ _. ⌜ now (excites .exit) ≡ front (excitedBy p lfe (now (powers .entry))) bands (now (excites .entry)) ⌝ }
@@ -85,14 +107,21 @@ fn excite_high(
     let mut leaks = leaks;
     let mut band = 22;
     while band < bands {
-        leaks = high_leaks(p, lfe, leaks, powers[band], powers[band + 1], band);
-        excites[band] = leaks.excite;
+        leaks = high_leaks(
+            p,
+            lfe,
+            leaks,
+            powers[band] as u32,
+            powers[band + 1] as u32,
+            band,
+        );
+        excites[band] = leaks.excite as u16;
         band += 1;
     }
 }
 
 // The excitations of the first bands; a channel has 7 of them or more than 22.
-pub fn excite_bands(p: Leak, lfe: bool, powers: &[u32; 51], bands: usize, excites: &mut [u32])
+pub fn excite_bands(p: Leak, lfe: bool, powers: &[u16; 51], bands: usize, excites: &mut [u16])
     requires { ⌜ (bands ≤ 50) × (bands < 22 → bands ≡ 7) ⌝ }
     requires { ⌜ (length (now powers) ≡ 51) × (length (now excites) ≡ 50) ⌝ }
     requires { ⌜ ((k : ℕ) → getD (now powers) k 0 ≤ 8191) ⌝ }

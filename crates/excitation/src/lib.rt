@@ -7,8 +7,6 @@ pub mod psd_integration;
 
 pub use excitation::Leak;
 pub use excite::excite_bands;
-pub use number::less;
-pub use number::most;
 pub use psd_integration::SINGLES;
 pub use psd_integration::band_end;
 pub use psd_integration::band_powers;

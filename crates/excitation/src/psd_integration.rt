@@ -68,14 +68,14 @@ pub fn band_end(bin: usize, size: u8, end: usize) -> usize
     if last < end { last } else { end }
 }
 
-fn single_powers(exp: &[u8], end: usize, bins: usize, powers: &mut [u32])
+fn single_powers(exp: &[u8], end: usize, bins: usize, powers: &mut [u16])
     requires { ⌜ (bins ≤ 28) × (bins ≤ end) × (end ≤ length (now exp)) × (length (now powers) ≡ 51) ⌝ }
     requires { ⌜ ((i : ℕ) → i < end → getD (now exp) i 0 ≤ 24) ⌝ }
     ensures { λ _. ⌜ now (powers .exit) ≡ front (bndpsd (now (exp .entry)) 0 end) bins (now (powers .entry)) ⌝ }
 {
     let mut k = 0;
     while k < bins {
-        powers[k] = psd(exp[k]);
+        powers[k] = psd(exp[k]) as u16;
         k += 1;
     }
 }
@@ -86,7 +86,7 @@ fn joined_powers(
     end: usize,
     bndsz: &[u8; 50],
     latab: &[u8; 256],
-    powers: &mut [u32],
+    powers: &mut [u16],
 ) -> usize
     requires { ⌜ (28 ≤ end) × (end ≤ 253) × (end ≤ length (now exp)) × (length (now powers) ≡ 51) ⌝ }
     requires { ⌜ ((i : ℕ) → i < end → getD (now exp) i 0 ≤ 24) ⌝ }
@@ -99,7 +99,7 @@ fn joined_powers(
     let mut bin = SINGLES;
     while bin < end {
         let next = band_end(bin, bndsz[band], end);
-        powers[band] = joined_psd(exp, bin, next - bin, latab);
+        powers[band] = joined_psd(exp, bin, next - bin, latab) as u16;
         bin = next;
         band += 1;
     }
@@ -108,7 +108,7 @@ fn joined_powers(
 
 // The psds of all bands, as an array with one entry more than there are bands, since A/52 7.2.2.4 looks at the next band too: past the last
 // band it is 0. Gives the number of bands.
-pub fn band_powers(exp: &[u8], end: usize, powers: &mut [u32]) -> usize
+pub fn band_powers(exp: &[u8], end: usize, powers: &mut [u16]) -> usize
     requires { ⌜ (end ≤ 253) × (end ≤ length (now exp)) × (now powers ≡ replicate 51 0) ⌝ }
     requires { ⌜ ((i : ℕ) → i < end → getD (now exp) i 0 ≤ 24) ⌝ }
     ensures { λ r. ⌜ Bands end r ⌝ }

@@ -95,6 +95,34 @@ pub deltas-held : (m : ℕ) → 512 ≤ m → (offst len ba : List ℕ) (nseg ba
 unfolding deltas heldDeltas
 deltas-held m h offst len ba nseg band = sum-held offst len ba band m h nseg 0 0
 
+-- a code's delta, 512 up, is at most 1024, and so is what the segments add to a band
+delta-most : (b : ℕ) → b ≤ 7 → heldDelta b ≤ 1024
+unfolding heldDelta
+delta-most b h = go (ltb b 4)
+  where
+    go : (t : Bool) → cond t (128 * b) (128 * b + 128) ≤ 1024
+    go true = omega arith
+    go false = omega arith
+
+from-most : (offst len ba : List ℕ) (band n i at : ℕ) → ((j : ℕ) → j < i + n → getD ba j 0 ≤ 7) → heldFrom offst len ba band n i at ≤ 1024
+unfolding heldFrom
+from-most offst len ba band zero i at h = omega arith
+from-most offst len ba band (suc n) i at h =
+    go (from-most offst len ba band n (suc i) stop (λ j l. h j (omega arith))) (ltb band (at + getD offst i 0)) (ltb band stop)
+  where
+    stop : ℕ
+    stop = at + getD offst i 0 + getD len i 0
+
+    go : heldFrom offst len ba band n (suc i) stop ≤ 1024
+        → (t u : Bool) → cond t 512 (cond u (heldDelta (getD ba i 0)) (heldFrom offst len ba band n (suc i) stop)) ≤ 1024
+    go r true u = omega arith
+    go r false true = delta-most (getD ba i 0) (h i (omega arith))
+    go r false false = r
+
+pub deltas-most : (offst len ba : List ℕ) (nseg band : ℕ) → ((j : ℕ) → j < nseg → getD ba j 0 ≤ 7) → heldDeltas offst len ba nseg band ≤ 1024
+unfolding heldDeltas
+deltas-most offst len ba nseg band h = from-most offst len ba band nseg 0 0 (λ j l. h j (omega arith))
+
 -- ---- places
 
 module _ (offst len ba : List ℕ) (nseg : ℕ) where

@@ -5,59 +5,30 @@ use native.Mathlib.Omega.{arith}
 use lib.ListN.{length, take, drop}
 use Rattle.excitation.specs.BandOrder.{NextBin}
 use Rattle.excitation.specs.BandOrderLaws.{ends-at, next-bounds}
-use Rattle.allocation.specs.Held.{bapBy}
+use Rattle.allocation.specs.Held.{bapFrom}
 use Rattle.allocation.proofs.Filling.{length-window, Filled, filled-start, filled-more, filled-end, part-lengths, part-exponents, windows-read}
 use Rattle.allocation.proofs.bap.fill_joined.Statement.{statement}
 use Rattle.allocation.proofs.bap.fill_joined.Tie as tie
 
 abbrev Inv-loop : tie.InvT-loop
-Inv-loop exp end p powers excites added hth bndsz window bap₀ band₀ bin₀ bap band bin = Filled (bapBy p powers excites added hth exp) end bap₀ band bin bap
+Inv-loop exp end bases bndsz window bap₀ band₀ bin₀ bap band bin = Filled (bapFrom bases exp) end bap₀ band bin bap
 
 abbrev μ-loop : tie.MeasureT-loop
-μ-loop exp end p powers excites added hth bndsz window bap₀ band₀ bin₀ bap band bin = end - bin
+μ-loop exp end bases bndsz window bap₀ band₀ bin₀ bap band bin = end - bin
 
 loop-holds : tie.Need-loop-holds Inv-loop μ-loop
-loop-holds c = filled-start _ _ _ (c .before .before .pre .0 .0) (c .before .before .pre .1 .1 .1 .1 .1)
+loop-holds c = filled-start _ _ _ (c .before .before .pre .0 .0) (c .before .before .pre .1 .1 .1 .1)
 
 element-copy-out-band-end : tie.Need-element-copy-out-band-end Inv-loop μ-loop
 element-copy-out-band-end c = omega (arith, c .before .loop .inv .here (c .loop-test .taken) .0)
 
-mul-band-base : tie.Need-mul-band-base Inv-loop μ-loop
-mul-band-base c = omega (arith, c .before .before .before .loop .inv .here (c .before .before .loop-test .taken) .0)
-
-element-copy-out-band-base : tie.Need-element-copy-out-band-base Inv-loop μ-loop
-element-copy-out-band-base c = omega (arith, c .before .before .before .loop .inv .here (c .before .before .loop-test .taken) .0)
-
-mul-band-base-2 : tie.Need-mul-band-base-2 Inv-loop μ-loop
-mul-band-base-2 c = omega (arith, c .before .before .before .before .loop .inv .here (c .before .before .before .loop-test .taken) .0)
-
-element-copy-out-band-base-2 : tie.Need-element-copy-out-band-base-2 Inv-loop μ-loop
-element-copy-out-band-base-2 c = omega (arith, c .before .before .before .before .loop .inv .here (c .before .before .before .loop-test .taken) .0)
-
-mul-band-base-3 : tie.Need-mul-band-base-3 Inv-loop μ-loop
-mul-band-base-3 c = omega (arith, c .before .before .before .before .before .loop .inv .here (c .before .before .before .before .loop-test .taken) .0)
-
-element-copy-out-band-base-3 : tie.Need-element-copy-out-band-base-3 Inv-loop μ-loop
-element-copy-out-band-base-3 c = omega (arith, c .before .before .before .before .before .loop .inv .here (c .before .before .before .before .loop-test .taken) .0)
-
-mul-band-base-4 : tie.Need-mul-band-base-4 Inv-loop μ-loop
-mul-band-base-4 c = omega (arith, c .before .before .before .before .before .before .loop .inv .here (c .before .before .before .before .before .loop-test .taken) .0)
-
-element-copy-out-band-base-4 : tie.Need-element-copy-out-band-base-4 Inv-loop μ-loop
-element-copy-out-band-base-4 c = omega (arith, c .before .before .before .before .before .before .loop .inv .here (c .before .before .before .before .before .loop-test .taken) .0)
-
-band-base-requires : tie.Need-band-base-requires Inv-loop μ-loop
-band-base-requires c κs =
-    let r = c .before .before .before .before .before .before .before .before .before .before .pre .1 .1 in
-    (r .0, r .1 .0 .4 (c .before .before .before .before .before .before .before .loop .band))
-
 -- where the band ends
-next-of : (c : tie.After-band-base Inv-loop μ-loop) → NextBin (c .before .before .before .before .before .before .before .before .before .before .before .args .end) (c .before .before .before .before .before .before .before .before .loop .band) (c .before .before .before .before .before .before .before .before .loop .bin) (c .before .before .before .before .before .band-end .result)
+next-of : (c : tie.After-band-end Inv-loop μ-loop) → NextBin (c .before .before .before .before .before .before .args .end) (c .before .before .before .loop .band) (c .before .before .before .loop .bin) (c .band-end .result)
 next-of c =
-    let taken = c .before .before .before .before .before .before .before .loop-test .taken in
-    let h = c .before .before .before .before .before .before .before .before .loop .inv .here taken in
-    let r = c .before .before .before .before .before .before .before .before .before .before .before .pre in
-    next-bounds _ _ _ _ (h .0) (h .1) taken (r .0 .1) (ends-at _ _ _ _ _ (h .1) (r .1 .1 .1 .1 .0 .1) (c .before .before .before .before .before .band-end .ensures))
+    let taken = c .before .before .loop-test .taken in
+    let h = c .before .before .before .loop .inv .here taken in
+    let r = c .before .before .before .before .before .before .pre in
+    next-bounds _ _ _ _ (h .0) (h .1) taken (r .0 .1) (ends-at _ _ _ _ _ (h .1) (r .1 .1 .1 .0 .1) (c .band-end .ensures))
 
 sub-fill-band : tie.Need-sub-fill-band Inv-loop μ-loop
 sub-fill-band c = omega (arith, next-of c)
@@ -66,48 +37,54 @@ part-fill-band-start : tie.Need-part-fill-band-start Inv-loop μ-loop
 part-fill-band-start c = omega (arith, next-of c)
 
 part-fill-band-end : tie.Need-part-fill-band-end Inv-loop μ-loop
-part-fill-band-end c = omega (arith, next-of c, c .before .before .before .before .before .before .before .before .before .before .before .pre .0)
+part-fill-band-end c = omega (arith, next-of c, c .before .before .before .before .before .before .pre .0)
+
+mul-fill-band : tie.Need-mul-fill-band Inv-loop μ-loop
+mul-fill-band c = omega (arith, c .before .before .before .before .loop .inv .here (c .before .before .before .loop-test .taken) .0)
+
+element-copy-out-fill-band : tie.Need-element-copy-out-fill-band Inv-loop μ-loop
+element-copy-out-fill-band c = omega (arith, c .before .before .before .before .loop .inv .here (c .before .before .before .loop-test .taken) .0)
+
+cast-fill-band : tie.Need-cast-fill-band Inv-loop μ-loop
+cast-fill-band c = omega (arith, c .before .before .before .before .before .before .before .before .pre .1 .1 .0 .2 (c .before .before .before .before .before .loop .band))
 
 sub-fill-band-2 : tie.Need-sub-fill-band-2 Inv-loop μ-loop
-sub-fill-band-2 c = omega (arith, next-of (c .before))
+sub-fill-band-2 c = omega (arith, next-of (c .before .before))
 
 part-fill-band-start-2 : tie.Need-part-fill-band-start-2 Inv-loop μ-loop
-part-fill-band-start-2 c = omega (arith, next-of (c .before))
+part-fill-band-start-2 c = omega (arith, next-of (c .before .before))
 
 part-fill-band-end-2 : tie.Need-part-fill-band-end-2 Inv-loop μ-loop
-part-fill-band-end-2 c = omega (arith, next-of (c .before), c .before .before .before .before .before .before .before .before .before .loop .inv .same-length, c .before .before .before .before .before .before .before .before .before .before .before .before .pre .0)
+part-fill-band-end-2 c = omega (arith, next-of (c .before .before), c .before .before .before .before .before .loop .inv .same-length, c .before .before .before .before .before .before .before .before .pre .0)
 
 fill-band-requires : tie.Need-fill-band-requires Inv-loop μ-loop
 fill-band-requires c κs =
-    let turn = c .before .before .before .before .before .before .before .before .before .before .loop in
-    let entered = c .before .before .before .before .before .before .before .before .before .before .before .before .before in
-    let r = entered .pre in
-    let n = next-of (c .before .before) in
-    let b = c .before .before .band-base .ensures in
-    let room : entered .args .end ≤ length (turn .bap) = omega (arith, r .0, turn .inv .same-length) in (
-      (part-lengths _ _ _ _ _ (n .middle) (r .0 .2) room, ap length (r .1 .1 .1 .1 .0 .0) ∙ length-window, b .1, b .2),
+    let turn = c .before .before .before .before .before .before .loop in
+    let r = c .before .before .before .before .before .before .before .before .before .pre in
+    let n = next-of (c .before .before .before) in
+    let h = turn .inv .here (c .before .before .before .before .before .loop-test .taken) .0 in
+    let b = r .1 .1 .0 in
+    let room : c .before .before .before .before .before .before .before .before .before .args .end ≤ length (turn .bap) = omega (arith, r .0, turn .inv .same-length) in (
+      (part-lengths _ _ _ _ _ (n .middle) (r .0 .2) room, ap length (r .1 .1 .1 .0 .0) ∙ length-window, b .1 (turn .band) h, b .2 (turn .band)),
       part-exponents _ (turn .bap) _ _ _ (n .middle) (r .0 .2) room (r .1 .0),
     )
 
 add-band : tie.Need-add-band Inv-loop μ-loop
-add-band c = omega (arith, c .before .before .before .before .before .before .before .before .before .before .before .before .before .loop .inv .here (c .before .before .before .before .before .before .before .before .before .before .before .before .loop-test .taken) .0)
+add-band c = omega (arith, c .before .before .before .before .before .before .before .before .before .loop .inv .here (c .before .before .before .before .before .before .before .before .loop-test .taken) .0)
 
 loop-less : tie.Need-loop-less Inv-loop μ-loop
-loop-less c = omega (arith, next-of (c .before .before .before .before .before))
+loop-less c = omega (arith, next-of (c .before .before .before .before .before .before))
 
 loop-again : tie.Need-loop-again Inv-loop μ-loop
 loop-again c =
-    let based = c .before .before .before .before .before .band-base .ensures .0 in
-    let ended = c .before .before .before .before .before .before .before .before .before .before .band-end in
-    let taken = c .before .before .before .before .before .before .before .before .before .before .before .before .loop-test .taken in
-    let turn = c .before .before .before .before .before .before .before .before .before .before .before .before .before .loop in
-    let entered = c .before .before .before .before .before .before .before .before .before .before .before .before .before .before .before .before in
-    let r = entered .pre in
-    let h = turn .inv .here taken in
-    let tables = r .1 .1 .1 .1 .0 in
-    let n = ends-at _ _ _ _ _ (h .1) (tables .1) (ended .ensures) in
-    filled-more _ _ _ _ _ _ (r .1 .1 .0 .2) _ _ (r .0 .1) (r .0 .3) (r .1 .0) _ _ _ _ _ _ (turn .inv) taken n (r .1 .1 .1 .0 .5 _ (h .0)) based
-    (windows-read _ _ _ (take (ended .result - turn .bin) (drop (turn .bin) (entered .args .exp .now))) _ (tables .0) (c .before .before .fill-band .ensures))
+    let turn = c .before .before .before .before .before .before .before .before .before .loop in
+    let taken = c .before .before .before .before .before .before .before .before .loop-test .taken in
+    let r = c .before .before .before .before .before .before .before .before .before .before .before .before .pre in
+    let tables = r .1 .1 .1 .0 in
+    let ended = c .before .before .before .before .before .before .band-end in
+    let n = ends-at _ _ _ _ _ (turn .inv .here taken .1) (tables .1) (ended .ensures) in
+    filled-more _ _ _ _ (r .0 .1) (r .0 .3) _ _ _ _ _ (turn .inv) taken n
+    (windows-read _ _ _ (take (ended .result - turn .bin) (drop (turn .bin) (c .before .before .before .before .before .before .before .before .before .before .before .before .args .exp .now))) _ (tables .0) (c .before .before .fill-band .ensures))
 
 same-length : tie.Need-same-length Inv-loop μ-loop
 same-length c = c .before .loop .inv .same-length
@@ -124,18 +101,12 @@ fill-joined-spec =
     loop-holds
     element-copy-out-band-end
     (λ c κs. omega arith)
-    mul-band-base
-    element-copy-out-band-base
-    mul-band-base-2
-    element-copy-out-band-base-2
-    mul-band-base-3
-    element-copy-out-band-base-3
-    mul-band-base-4
-    element-copy-out-band-base-4
-    band-base-requires
     sub-fill-band
     part-fill-band-start
     part-fill-band-end
+    mul-fill-band
+    element-copy-out-fill-band
+    cast-fill-band
     sub-fill-band-2
     part-fill-band-start-2
     part-fill-band-end-2

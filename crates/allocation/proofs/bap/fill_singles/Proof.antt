@@ -6,41 +6,36 @@ use lib.ListN.{length, take, length-set}
 use Rattle.bits.specs.Parts.{tab}
 use Rattle.bits.specs.PartsLaws.{tab-start, tab-more}
 use Rattle.tables.specs.Rules.{masktab-one}
-use Rattle.allocation.specs.Held.{bapBy}
-use Rattle.allocation.proofs.Filling.{length-window, window-read, bap-by}
+use Rattle.allocation.specs.Held.{bapFrom}
+use Rattle.allocation.proofs.Filling.{length-window, window-read, from-base}
 use Rattle.allocation.proofs.bap.fill_singles.Statement.{statement}
 use Rattle.allocation.proofs.bap.fill_singles.Tie as tie
 
 abbrev Inv-loop : tie.InvT-loop
-Inv-loop exp bins p powers excites added hth window bap₀ bin₀ bap bin =
-    (take bin bap ≡ tab bin (bapBy p powers excites added hth exp)) × (bin ≤ bins) × (length bap ≡ length bap₀)
+Inv-loop exp bins bases window bap₀ bin₀ bap bin = (take bin bap ≡ tab bin (bapFrom bases exp)) × (bin ≤ bins) × (length bap ≡ length bap₀)
 
 abbrev μ-loop : tie.MeasureT-loop
-μ-loop exp bins p powers excites added hth window bap₀ bin₀ bap bin = bins - bin
+μ-loop exp bins bases window bap₀ bin₀ bap bin = bins - bin
 
 loop-holds : tie.Need-loop-holds Inv-loop μ-loop
 loop-holds c =
     let a = c .before .before .args in
-    (tab-start (bapBy (a .p) (a .powers .now) (a .excites .now) (a .added .now) (a .hth .now) (a .exp .now)) (a .bap .now), omega arith, refl)
+    (tab-start (bapFrom (a .bases .now) (a .exp .now)) (a .bap .now), omega arith, refl)
 
-band-base-requires : tie.Need-band-base-requires Inv-loop μ-loop
-band-base-requires c κs =
-    let r = c .before .before .before .before .before .before .before .before .pre .1 .1 in
-    let k = r .1 .0 .4 (c .before .before .before .before .before .loop .bin) in
-    (r .0, k)
+cast-pointer : tie.Need-cast-pointer Inv-loop μ-loop
+cast-pointer c = omega (arith, c .before .before .before .before .before .pre .1 .1 .0 .2 (c .before .before .loop .bin))
 
 pointer-requires : tie.Need-pointer-requires Inv-loop μ-loop
 pointer-requires c κs =
-    let r = c .before .before .before .before .before .before .before .before .before .before .pre in
-    let b = c .before .band-base .ensures in
-    (ap length (r .1 .1 .1 .1) ∙ length-window, b .1, b .2, r .1 .0 _ (c .before .before .before .before .before .before .loop-test .taken))
+    let r = c .before .before .before .before .before .before .pre in
+    let b = r .1 .1 .0 in
+    let k = c .before .before .before .loop .bin in
+    (ap length (r .1 .1 .1) ∙ length-window, b .1 k (omega arith), b .2 k, r .1 .0 _ (c .before .before .loop-test .taken))
 
 loop-again : tie.Need-loop-again Inv-loop μ-loop
 loop-again c =
-    let l = c .before .before .before .before .before .before .before .before .loop .inv in
-    let r = c .before .before .before .before .before .before .before .before .before .before .before .pre in
-    let v =
-    bap-by _ _ _ _ _ _ (r .1 .1 .0 .2) _ _ _ _ (masktab-one (c .before .before .before .before .before .before .before .before .loop .bin) (omega arith)) (r .1 .0 _ (c .before .before .before .before .before .before .before .loop-test .taken)) (r .1 .1 .1 .0 .5 (c .before .before .before .before .before .before .before .before .loop .bin) (omega arith)) (c .before .before .band-base .ensures .0) (window-read _ _ _ (r .1 .1 .1 .1) (c .pointer .ensures)) in
+    let l = c .before .before .before .before .loop .inv in
+    let v = from-base _ _ _ _ _ (masktab-one (c .before .before .before .before .loop .bin) (omega arith)) (window-read _ _ _ (c .before .before .before .before .before .before .before .pre .1 .1 .1) (c .pointer .ensures)) in
     (tab-more _ _ _ _ (omega arith) (l .0) v, omega arith, rw length-set (l .2))
 
 same-length : tie.Need-same-length Inv-loop μ-loop
@@ -61,13 +56,7 @@ fill-singles-spec =
     loop-holds
     (λ c. omega arith)
     (λ c. omega arith)
-    (λ c. omega arith)
-    (λ c. omega arith)
-    (λ c. omega arith)
-    (λ c. omega arith)
-    (λ c. omega arith)
-    (λ c. omega arith)
-    band-base-requires
+    cast-pointer
     (λ c. omega arith)
     pointer-requires
     (λ c. omega arith)

@@ -5,6 +5,7 @@ use borrow.Author.Needs.{needs}
 use lib.ListN.{length}
 use Rattle.bits.specs.PartsLaws.{length-tab}
 use Rattle.sheet.specs.RangesLaws.{end-bounds}
+use Rattle.allocation.proofs.ByBand.{array-long}
 use Rattle.allocation.proofs.Allocating as law
 use Rattle.allocation.proofs.channel.allocate.Statement.{statement}
 use Rattle.allocation.proofs.channel.allocate.Tie as tie
@@ -49,19 +50,24 @@ fill-bins-requires c κs =
     let excites = law.excites-small _ _ _ _ _ _ few x refl (law.powers-most _ _ _ (b .1)) in (
       (end-bounds (entered .args .end) (l .legal) .most, l .held, l .room),
       (
-        l .most,
+        b .0,
         (
-          law.parameters-small _ _ _ legal (initialized .initialize .ensures),
+          l .most,
           (
+            law.parameters-small _ _ _ legal (initialized .initialize .ensures),
             (
-              ap length (b .1) ∙ length-tab 51 _,
-              law.array-long _ 0 0 _ _ _ few x refl,
-              law.array-long _ 512 0 _ _ _ few (added .band-deltas .ensures) refl,
-              law.thresholds-long _ _ (legal .fscod) h,
-              excites,
-              law.thresholds-least _ _ (legal .fscod) h,
+              (
+                ap length (b .1) ∙ length-tab 51 _,
+                array-long _ 0 _ _ _ few x refl,
+                array-long _ 512 _ _ _ few (added .band-deltas .ensures) refl,
+                law.thresholds-long _ _ (legal .fscod) h,
+                excites,
+                law.deltas-small (entered .args .channel) _ _ _ few (added .band-deltas .ensures) refl (legal .ba),
+                law.thresholds-most _ _ h,
+                law.thresholds-least _ _ (legal .fscod) h,
+              ),
+              windowed .window .ensures,
             ),
-            windowed .window .ensures,
           ),
         ),
       ),
@@ -86,7 +92,7 @@ returns c =
     let b = powered .band-powers .ensures in
     let arrays = law.arrays _ _ _ _ _ _ _ _ _ _ _ _ (initialized .initialize .ensures) (b .0) (b .1) (excited .excite-bands .ensures) refl (added .band-deltas .ensures) refl (thresholds .hth-row .ensures) in
     law.allocate-done _ _ (entered .pre .0) _ (end-bounds (entered .args .end) (l .legal) .most) _ _ _ _ _ _ _ arrays _ _ _ (omega (arith, l .room, filled .fill-bins .kept))
-    (filled .fill-bins .kept .1 .1 .1 .1 .1 .1 .1 .1 .0) (filled .fill-bins .ensures) (c .before .before .fill .ensures)
+    (filled .fill-bins .kept .1 .1 .1 .1 .1 .1 .1 .1 .1 .0) (filled .fill-bins .ensures) (c .before .before .fill .ensures)
 
 pub allocate-spec : {M : Type 1} → statement M
 allocate-spec =

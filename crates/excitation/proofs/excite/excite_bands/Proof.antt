@@ -47,7 +47,7 @@ excite-high-requires c κs =
     let r = started .before .before .before .pre in
     let s = low .excite-low .ensures in (
       (low .before .before .if1 .left, r .0 .0, r .1 .0 .0, omega (arith, r .1 .0 .1, started .excite-start .kept, first .excite-first .kept, low .excite-low .kept)),
-      (s .0, ap (take 22) (s .1) ∙ take-front _ 22 _),
+      (r .1 .1, (s .0, ap (take 22) (s .1) ∙ take-front _ 22 _)),
     )
 
 returns-2 : tie.Need-returns-2

@@ -1,9 +1,9 @@
 -- Each turn fills the excitation of one of bands 7 to 21.
-use Prim.Native.Nat.{_-_, _≤_}
+use Prim.Native.Nat.{_+_, _-_, _≤_}
 use mathlib.Core.Path.{_≡_}
 use native.Mathlib.Omega.{arith}
 use Rattle.excitation.specs.FrontLaws.{front-begin}
-use Rattle.excitation.proofs.Exciting.{Excited, excited-begun, excited-more}
+use Rattle.excitation.proofs.Exciting.{Excited, excited-begun, excited-more, excited-most}
 use Rattle.excitation.proofs.excite.excite_low.Statement.{statement}
 use Rattle.excitation.proofs.excite.excite_low.Tie as tie
 
@@ -18,17 +18,26 @@ loop-holds c =
     let r = c .before .pre in
     (omega arith, omega arith, record { leaks-are = r .1 .1 .0; filled = front-begin _ _ _ (r .1 .1 .1); long = r .0 .1 })
 
+cast-low-leaks : tie.Need-cast-low-leaks Inv-loop μ-loop
+cast-low-leaks c = omega (arith, c .before .before .before .before .pre .1 .0 (c .before .before .loop .band))
+
+cast-low-leaks-2 : tie.Need-cast-low-leaks-2 Inv-loop μ-loop
+cast-low-leaks-2 c = omega (arith, c .before .before .before .before .before .pre .1 .0 (c .before .before .before .loop .band + 1))
+
 low-leaks-requires : tie.Need-low-leaks-requires Inv-loop μ-loop
 low-leaks-requires c κs =
     let l = c .before .before .before .loop .inv in
     let r = c .before .before .before .before .before .pre .1 .0 in
     (r _, r _, l .0, c .before .before .loop-test .taken, excited-begun _ _ _ _ _ _ _ (l .0) (l .2))
 
+cast-excites : tie.Need-cast-excites Inv-loop μ-loop
+cast-excites c = omega (arith, excited-most _ _ _ _ _ _ _ _ (c .before .before .before .before .before .before .before .pre .1 .0) (c .before .before .before .before .before .loop .inv .2) (c .before .low-leaks .ensures))
+
 slice-write-excites : tie.Need-slice-write-excites Inv-loop μ-loop
-slice-write-excites c = omega (arith, c .before .before .before .before .loop .inv .2 .long)
+slice-write-excites c = omega (arith, c .before .before .before .before .before .loop .inv .2 .long)
 
 loop-again : tie.Need-loop-again Inv-loop μ-loop
-loop-again c = (omega arith, omega arith, excited-more _ _ _ _ _ _ _ _ (c .before .before .before .before .before .before .pre .0 .1) (omega arith) (c .before .before .before .before .loop .inv .2) (c .low-leaks .ensures))
+loop-again c = (omega arith, omega arith, excited-more _ _ _ _ _ _ _ _ (c .before .before .before .before .before .before .before .pre .0 .1) (omega arith) (c .before .before .before .before .before .loop .inv .2) (c .before .low-leaks .ensures))
 
 same-length : tie.Need-same-length Inv-loop μ-loop
 same-length c = omega (arith, c .before .loop .inv .2 .long, c .before .before .before .pre .0 .1)
@@ -48,10 +57,13 @@ excite-low-spec =
     loop-holds
     (λ c. omega arith)
     (λ c. omega arith)
+    cast-low-leaks
     (λ c. omega arith)
     (λ c. omega arith)
     (λ c. omega arith)
+    cast-low-leaks-2
     low-leaks-requires
+    cast-excites
     (λ c. omega arith)
     slice-write-excites
     (λ c. omega arith)

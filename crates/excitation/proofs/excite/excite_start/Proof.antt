@@ -1,11 +1,11 @@
 -- Each turn fills the excitation of one of bands 0 to 2.
-use Prim.Native.Nat.{_-_, _≤_}
+use Prim.Native.Nat.{_+_, _-_, _≤_}
 use mathlib.Core.Path.{_≡_}
 use native.Mathlib.Omega.{arith}
 use borrow.Author.Needs.{needs}
 use Rattle.excitation.specs.Held.{after}
 use Rattle.excitation.specs.FrontLaws.{front-none}
-use Rattle.excitation.proofs.Exciting.{Excited, excited-more}
+use Rattle.excitation.proofs.Exciting.{Excited, excited-more, excited-most}
 use Rattle.excitation.proofs.excite.excite_start.Statement.{statement}
 use Rattle.excitation.proofs.excite.excite_start.Tie as tie
 
@@ -19,16 +19,25 @@ loop-holds : tie.Need-loop-holds Inv-loop μ-loop
 unfolding after
 loop-holds c = (omega arith, record { leaks-are = c .begin-leaks .ensures; filled = front-none _ _; long = c .before .before .pre .0 .1 })
 
+cast-first-leaks : tie.Need-cast-first-leaks Inv-loop μ-loop
+cast-first-leaks c = omega (arith, c .before .before .before .before .before .pre .1 (c .before .before .loop .band))
+
+cast-first-leaks-2 : tie.Need-cast-first-leaks-2 Inv-loop μ-loop
+cast-first-leaks-2 c = omega (arith, c .before .before .before .before .before .before .pre .1 (c .before .before .before .loop .band + 1))
+
 first-leaks-requires : tie.Need-first-leaks-requires Inv-loop μ-loop
 first-leaks-requires c κs =
     let r = c .before .before .before .before .before .before .pre .1 in
     (r _, r _, omega arith)
 
+cast-excites : tie.Need-cast-excites Inv-loop μ-loop
+cast-excites c = omega (arith, excited-most _ _ _ _ _ _ _ _ (c .before .before .before .before .before .before .before .before .pre .1) (c .before .before .before .before .before .loop .inv .1) (c .before .first-leaks .ensures))
+
 slice-write-excites : tie.Need-slice-write-excites Inv-loop μ-loop
-slice-write-excites c = omega (arith, c .before .before .before .before .loop .inv .1 .long)
+slice-write-excites c = omega (arith, c .before .before .before .before .before .loop .inv .1 .long)
 
 loop-again : tie.Need-loop-again Inv-loop μ-loop
-loop-again c = (omega arith, excited-more _ _ _ _ _ _ _ _ (c .before .before .before .before .before .before .before .pre .0 .1) (omega arith) (c .before .before .before .before .loop .inv .1) (c .first-leaks .ensures))
+loop-again c = (omega arith, excited-more _ _ _ _ _ _ _ _ (c .before .before .before .before .before .before .before .before .pre .0 .1) (omega arith) (c .before .before .before .before .before .loop .inv .1) (c .before .first-leaks .ensures))
 
 same-length : tie.Need-same-length Inv-loop μ-loop
 same-length c = omega (arith, c .before .loop .inv .1 .long, c .before .before .before .before .pre .0 .1)
@@ -49,10 +58,13 @@ excite-start-spec =
     loop-holds
     (λ c. omega arith)
     (λ c. omega arith)
+    cast-first-leaks
     (λ c. omega arith)
     (λ c. omega arith)
     (λ c. omega arith)
+    cast-first-leaks-2
     first-leaks-requires
+    cast-excites
     (λ c. omega arith)
     slice-write-excites
     (λ c. omega arith)

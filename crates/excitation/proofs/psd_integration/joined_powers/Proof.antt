@@ -1,8 +1,10 @@
 -- Each turn joins the bins of one band: the laws of Joining.antt.
 use Prim.Native.Nat.{_-_}
+use mathlib.Core.Path.{sym}
 use native.Mathlib.Omega.{arith}
 use Rattle.excitation.specs.BandOrder.{NextBin}
 use Rattle.excitation.specs.BandOrderLaws.{ends-at, next-bounds}
+use Rattle.excitation.specs.BandPsdLaws.{joinedPsd-most}
 use Rattle.excitation.proofs.Joining.{Joined, joined-start, joined-more, joined-bands}
 use Rattle.excitation.proofs.psd_integration.joined_powers.Statement.{statement}
 use Rattle.excitation.proofs.psd_integration.joined_powers.Tie as tie
@@ -35,6 +37,9 @@ joined-psd-requires c κs =
     let r = c .before .before .before .before .before .before .pre in
     let n = next-of c in
     ((omega (arith, n), omega (arith, n, r .0)), (λ i h. r .1 .0 i (omega (arith, n)), r .1 .1 .0 .1))
+
+cast-powers : tie.Need-cast-powers Inv-loop μ-loop
+cast-powers c = omega (arith, rw (sym (c .joined-psd .ensures)) at (joinedPsd-most (c .before .before .before .before .before .before .before .args .exp .now) (c .before .before .before .before .loop .bin) (c .before .band-end .result - c .before .before .before .before .loop .bin)))
 
 mul-powers : tie.Need-mul-powers Inv-loop μ-loop
 mul-powers c = omega (arith, c .before .before .before .before .loop .inv .here (c .before .before .before .loop-test .taken) .0)
@@ -75,6 +80,7 @@ joined-powers-spec =
     (λ c κs. omega arith)
     sub-joined-psd
     joined-psd-requires
+    cast-powers
     mul-powers
     slice-write-powers
     add-band

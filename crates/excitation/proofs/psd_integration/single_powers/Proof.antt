@@ -43,6 +43,7 @@ single-powers-spec =
     loop-holds
     (λ c. search needs)
     psd-requires
+    (λ c. omega arith)
     (λ c. search needs)
     (λ c. search needs)
     (λ c. search needs)

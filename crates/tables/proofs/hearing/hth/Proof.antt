@@ -1,11 +1,11 @@
--- The element read is the table's entry, by computation at any index.
-use mathlib.Core.Path.{refl}
+-- The entry of the rate's row.
 use borrow.Author.Needs.{needs}
-use Rattle.tables.specs.Entry.{entry, row}
-use Rattle.tables.specs.Masking.{hth}
+use Rattle.tables.specs.EntryLaws.{entry-lent}
 use Rattle.tables.proofs.hearing.hth.Statement.{statement}
 use Rattle.tables.proofs.hearing.hth.Tie as tie
 
+returns : tie.Need-returns
+returns c = entry-lent _ _ _ (c .hth-row .ensures)
+
 pub hth-spec : {M : Type 1} → statement M
-unfolding entry row hth
-hth-spec = tie.close (tie.spec (λ c. search needs) (λ c. search needs) (λ c. search needs) (λ c. search needs) (λ c. refl))
+hth-spec = tie.close (tie.spec (λ c κs. search needs) (λ c. search needs) (λ c. search needs) returns)
