@@ -1,15 +1,15 @@
 -- Laws of a frame's rows and parts: their lengths, the parts of a row that is put together, where a part starts, and that an allocation
 -- looks below the end only.
 use Prim.Native.Nat.{ℕ, zero, suc, _+_, _-_, _*_, _≤_, _<_}
-use mathlib.Core.Path.{_≡_, refl, sym, ap, _∙_}
+use mathlib.Core.Path.{_≡_, refl, sym, ap, ap₂, _∙_}
 use mathlib.Core.List.{List, [], _∷_, _++_}
-use native.Mathlib.Nat.{mul-add, mul-assoc}
+use native.Mathlib.Nat.{sub-zero, zero-sub, suc-sub-suc, mul-add, mul-assoc}
 use native.Mathlib.Omega.{arith}
 use lib.ListN.{length, take, drop, getD, replicate, length-append, length-replicate}
 use lib.Seq.{length-take-le, take-at, take-take, drop-drop, getD-take}
 use Rattle.bits.specs.Parts.{joined, piece}
 use Rattle.bits.specs.PartsLaws.{joined-cong, joined-length, piece-joined, length-piece, within}
-use Rattle.allocation.specs.AllocationLaws.{length-allocated, allocated-same}
+use Rattle.allocation.specs.AllocationLaws.{length-allocated, allocated-past, allocated-same}
 use Rattle.bits.specs.Refusal as refusal
 use Rattle.sheet.specs.Common.{commonOf}
 use Rattle.sheet.specs.Layout.{partStart}
@@ -46,6 +46,25 @@ unfolding bapPart
 bapPart-same sheet c part other e =
     allocated-same (commonOf sheet) (recordOf sheet c) (endAt sheet c) part other 256
     (λ i h. sym (getD-take (endAt sheet c) part i 0 h) ∙ ap (λ (l : List ℕ). getD l i 0) e ∙ getD-take (endAt sheet c) other i 0 h)
+
+-- a list whose entries from n on are 0
+all-zeros : (l : List ℕ) → ((i : ℕ) → getD l i 0 ≡ 0) → replicate (length l) 0 ≡ l
+all-zeros [] h = refl
+all-zeros (x ∷ l) h = ap₂ (λ (y : ℕ) (t : List ℕ). y ∷ t) (sym (h 0)) (all-zeros l (λ i. h (suc i)))
+
+zeros-from : (n : ℕ) (l : List ℕ) → ((i : ℕ) → n ≤ i → getD l i 0 ≡ 0) → take n l ++ replicate (length l - n) 0 ≡ l
+zeros-from zero l h = rw (sub-zero) (all-zeros l (λ i. h i (omega arith)))
+zeros-from (suc n) [] h = rw (zero-sub)
+zeros-from (suc n) (x ∷ l) h = rw (suc-sub-suc) (ap (λ (t : List ℕ). x ∷ t) (zeros-from n l (λ i b. h (suc i) (omega arith))))
+
+bapPart-past : (sheet : List ℕ) (c : ℕ) (part : List ℕ) (i : ℕ) → endAt sheet c ≤ i → getD (bapPart sheet c part) i 0 ≡ 0
+unfolding bapPart
+bapPart-past sheet c part i h = allocated-past (commonOf sheet) (recordOf sheet c) (endAt sheet c) part 256 i h
+
+-- from end on an allocation is 0
+pub bapPart-clean : (sheet : List ℕ) (c : ℕ) (part : List ℕ) → clean (endAt sheet c) (bapPart sheet c part) ≡ bapPart sheet c part
+unfolding clean
+bapPart-clean sheet c part = rw (length-bapPart sheet c part) at (zeros-from (endAt sheet c) (bapPart sheet c part) (bapPart-past sheet c part))
 
 -- ---- rows
 

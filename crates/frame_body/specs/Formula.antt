@@ -2,9 +2,8 @@
 use Prim.Native.Nat.{ℕ, zero, suc, _+_, _*_, _≤_, _<_}
 use mathlib.Core.Path.{_≡_, refl, ap, ap₂, _∙_}
 use mathlib.Core.Bool.{Bool, true}
-use mathlib.Core.List.{List, [], _∷_, _++_}
+use mathlib.Core.List.{List, _++_}
 use native.Mathlib.Omega.{arith}
-use lib.Dec.{eqb}
 use lib.ListN.{length, take, getD, length-append, List·getD-append}
 use lib.Seq.{length-take-le, getD-append-add}
 use Rattle.bits.specs.Parts.{joined, piece, tab}
@@ -13,8 +12,8 @@ use Rattle.bits.specs.Refusal as refusal
 use Rattle.exponents.specs.Groups.{groupCount}
 use Rattle.exponents.specs.GroupsLaws.{count-thirds, length-exponentBits}
 use Rattle.mantissas.specs.Count.{count, sum, length-stream-formula}
-use Rattle.mantissas.specs.State.{by-bool}
 use Rattle.mantissas.specs.Stream.{Coded}
+use Rattle.mantissas.specs.TallyLaws.{count-append}
 use Rattle.sheet.specs.Ranges.{legalEnd}
 use Rattle.sheet.specs.Sheet.{checkOf}
 use Rattle.frame.specs.Layout.{channels, endAt, strategyAt, spanFor, rowOf, cleanRow}
@@ -57,11 +56,6 @@ unfolding mantissaBits mantissaCount
 mantissas-count sheet row codes h = length-stream-formula h
 
 -- n1, n2, n4 and the others go over all channels of the block
-count-append : (k : ℕ) (xs ys : List ℕ) → count k (xs ++ ys) ≡ count k xs + count k ys
-unfolding count
-count-append k [] ys = omega arith
-count-append k (x ∷ xs) ys = by-bool (eqb k x) (λ e. rw (e, count-append k xs ys) (omega arith)) (λ e. rw (e, count-append k xs ys))
-
 count-joined : (k : ℕ) (f : ℕ → List ℕ) (n : ℕ) → count k (joined n f) ≡ sum (λ i. count k (f i)) n
 unfolding joined sum
 count-joined k f zero = unfold count in refl

@@ -1,9 +1,10 @@
--- What the writer of a body asks of a channel's part and of a block: a new set is shaped for its strategy (document 01, "Exponents").
+-- What the writer of a body asks of a channel's part and of a block: a new set is shaped for its strategy (document 01, "Exponents"). And the
+-- bins that it writes: those below each end.
 use Prim.Native.Nat.{ℕ, _-_, _<_}
 use mathlib.Core.Path.{_≡_}
 use mathlib.Core.List.{List}
-use lib.ListN.{take}
-use Rattle.bits.specs.Parts.{piece}
+use lib.ListN.{take, getD}
+use Rattle.bits.specs.Parts.{joined, piece}
 use Rattle.shaping.specs.Shaped.{Shaped}
 use Rattle.frame.specs.Layout.{channels, endAt, strategyAt, spanFor}
 
@@ -14,3 +15,7 @@ pub record NewSet (strategy end : ℕ) (part : List ℕ) : Type 0 where
 -- the sets of block b
 pub record NewSets (sheet : List ℕ) (b : ℕ) (row : List ℕ) : Type 0 where
   pub part : (c : ℕ) → c < channels sheet → NewSet (strategyAt sheet b c) (endAt sheet c) (piece 256 c row)
+
+-- the entries of a row below each end, one channel's behind the other's (document 01, "The track sheet": "Entries from end on are ignored")
+unfoldable pub belowEnds : ℕ → List ℕ → List ℕ → List ℕ
+belowEnds channels ends row = joined channels (λ c. take (getD ends c 0) (piece 256 c row))

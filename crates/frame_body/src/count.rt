@@ -52,13 +52,11 @@ pub fn count_body(
     requires { ⌜ (now bap ≡ bapsOf (now sheet) (now exps)) × (codesLegal (now sheet) (now exps) (now codes) ≡ true) ⌝ }
     ensures { λ r. ⌜ r ≡ countsOf (now (sheet .entry)) (now (exps .entry)) (now (codes .entry)) ⌝ }
 {
-    let n = 256 * track.channels;
+    let ends = track.ends;
     let mut counts = [0u32; 12];
     for b in 0..6 {
-        let a = n * b;
-        let e = a + n;
         counts[b] = count_sets(sheet, track, strategies, b);
-        counts[6 + b] = mantissas::count_mantissas(&bap[a..e]);
+        counts[6 + b] = mantissas::count_block(bap, track.channels, ends, b);
     }
     counts
 }

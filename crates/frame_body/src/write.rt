@@ -1,4 +1,6 @@
 // The bits of a body (document 01, "The frame body"; A/52 5.4.3), block by block: the new exponent sets by channel number, then all mantissas.
+use crate::gather::gather_baps;
+use crate::gather::gather_codes;
 use bits::Writer;
 use frame::Track;
 ghost use mathlib.Core.Path.{_≡_};
@@ -8,14 +10,15 @@ ghost use lib.ListN.{length};
 ghost use Rattle.bits.specs.Answer.{stored};
 ghost use Rattle.bits.specs.Bytes.{bytesFor};
 ghost use Rattle.bits.specs.Write.{Ready, Put};
-ghost use Rattle.mantissas.specs.Stream.{Coded};
+ghost use Rattle.mantissas.specs.Inner.{Ends};
+ghost use Rattle.mantissas.specs.Stream.{Coded, stream};
 ghost use Rattle.sheet.specs.Ranges.{legalEnd};
 ghost use Rattle.frame.specs.Layout.{cleanRow};
 ghost use Rattle.frame.specs.Body.{setBits, setsBits, bapRow, blockBits, bodyBits};
 ghost use Rattle.frame.specs.Legal.{LegalFrame};
 ghost use Rattle.frame.specs.Under.{Under};
 ghost use Rattle.frame_rows.specs.Rows.{bapsOf, cleaned};
-ghost use Rattle.frame_body.specs.Writing.{NewSet, NewSets};
+ghost use Rattle.frame_body.specs.Writing.{NewSet, NewSets, belowEnds};
 
 // A channel's exponents in a block: none where the block reuses the earlier ones.
 fn put_part(out: &mut [u8], w: Writer, part: &[u8], strategy: u8, end: usize) -> Writer
@@ -57,7 +60,29 @@ fn put_sets(
     w
 }
 
-// A block: its sets, then its mantissas as one stream over all channels.
+// The mantissas of a block as one stream over all channels: the bins below each end, the others having no bits.
+fn put_bins(
+    out: &mut [u8],
+    w: Writer,
+    channels: usize,
+    ends: [usize; 6],
+    bap: &[u8],
+    codes: &[u16],
+) -> Writer
+    requires { ⌜ Ends channels ends ⌝ }
+    requires { ⌜ (length (now bap) ≡ 256 * channels) × (length (now codes) ≡ 256 * channels) ⌝ }
+    requires { ⌜ Coded (belowEnds channels ends (now bap)) (belowEnds channels ends (now codes)) ⌝ }
+    requires { ⌜ Ready w (length (now out)) (length (stream (belowEnds channels ends (now bap)) (belowEnds channels ends (now codes)))) ⌝ }
+    ensures { λ r. ⌜ Put (now (out .entry)) w (stream (belowEnds channels ends (now (bap .entry))) (belowEnds channels ends (now (codes .entry)))) (now (out .exit)) r ⌝ }
+{
+    let mut low_bap = frame_rows::no_row();
+    let mut low_codes = frame_rows::no_row_codes();
+    let n = gather_baps(bap, channels, ends, &mut low_bap[0..1536]);
+    let m = gather_codes(codes, channels, ends, &mut low_codes[0..1536]);
+    mantissas::put_mantissas(out, w, &low_bap[0..n], &low_codes[0..m])
+}
+
+// A block: its sets, then its mantissas.
 fn put_block(
     out: &mut [u8],
     w: Writer,
@@ -76,8 +101,9 @@ fn put_block(
     requires { ⌜ Ready w (length (now out)) (length (blockBits (now sheet) b (now row) (now codes))) ⌝ }
     ensures { λ r. ⌜ Put (now (out .entry)) w (blockBits (now (sheet .entry)) b (now (row .entry)) (now (codes .entry))) (now (out .exit)) r ⌝ }
 {
+    let ends = track.ends;
     let sets = put_sets(out, w, sheet, track, strategies, b, row);
-    mantissas::put_mantissas(out, sets, bap, codes)
+    put_bins(out, sets, track.channels, ends, bap, codes)
 }
 
 // The six blocks.

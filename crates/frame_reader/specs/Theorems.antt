@@ -9,7 +9,7 @@ use lib.Seq.{take-at}
 use borrow.Author.Tests.{eq-eqb}
 use Rattle.bits.specs.Reading.{Outcome, ok, fault}
 use Rattle.bits.specs.Refusal as refusal
-use Rattle.mantissas.specs.State.{by-bool}
+use Rattle.bits.specs.Tests.{by-bool}
 use Rattle.sheet.specs.Grammar.{structured}
 use Rattle.sheet.specs.Layout.{bufferLength}
 use Rattle.sheet.specs.Ranges.{inRange}

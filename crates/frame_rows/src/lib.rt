@@ -9,3 +9,4 @@ pub use rows::allocate_row;
 pub use zeros::no_bytes;
 pub use zeros::no_codes;
 pub use zeros::no_row;
+pub use zeros::no_row_codes;

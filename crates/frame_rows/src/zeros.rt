@@ -2,11 +2,18 @@
 ghost use mathlib.Core.Path.{_≡_};
 ghost use Rattle.frame_rows.specs.Rows.{noBuffer, noRow};
 
-// A row.
+// A row of exponents or bap.
 pub fn no_row() -> [u8; 1536]
     ensures { λ r. ⌜ r ≡ noRow ⌝ }
 {
     [0u8; 1536]
+}
+
+// A row of codes.
+pub fn no_row_codes() -> [u16; 1536]
+    ensures { λ r. ⌜ r ≡ noRow ⌝ }
+{
+    [0u16; 1536]
 }
 
 // A buffer of exponents or bap.

@@ -11,10 +11,10 @@ use Rattle.allocation.specs.Allocation.{answerOf, leftIn}
 use Rattle.bits.specs.Answer.{outputOf}
 use Rattle.bits.specs.Refusal as refusal
 use Rattle.bits.specs.declared.answer.Answer.{Answer}
+use Rattle.bits.specs.Tests.{by-bool}
 use Rattle.frame.specs.Answers.{bodyLeft}
 use Rattle.frame.specs.declared.answer.FrameAnswer.{FrameAnswer}
 use Rattle.frame_encoder.specs.Encode.{left}
-use Rattle.mantissas.specs.State.{by-bool}
 use Rattle.shaping.specs.Strategies.{selectRefusal, selected}
 use Rattle.sheet.specs.Common.{commonOf, channelsOf}
 use Rattle.sheet.specs.Record.{recordOf}

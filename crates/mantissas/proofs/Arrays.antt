@@ -8,8 +8,9 @@ use lib.Dec.{eqb}
 use lib.ListN.{length, getD, set, replicate}
 use lib.Seq.{getD-set-same, getD-set-other, set-getD}
 use borrow.Author.Tests.{eqb-true, eqb-false}
+use Rattle.bits.specs.Tests.{by-bool}
 use Rattle.mantissas.specs.Inner.{Started}
-use Rattle.mantissas.specs.State.{by-bool, update, at}
+use Rattle.mantissas.specs.State.{update, at}
 use Rattle.mantissas.specs.Stream.{left}
 use Rattle.mantissas.specs.Ranges.{size, width, groupSizes, row}
 use Rattle.tables.specs.Entry.{entry}
@@ -43,10 +44,6 @@ started-set {st} {b} {x} s h l =
           (λ e. rw (getD-set-other st b k x 0 (eqb-false k b e)) (s .less k hk));
     }
 
--- of a field of its own nothing is to come
-pub alone-zero : {st : List ℕ} {b : ℕ} → Started st → b < 16 → size b ≡ 1 → getD st b 0 ≡ 0
-alone-zero {st} {b} s h one = omega (arith, s .less b h)
-
 -- one less to come
 pub less-one : (b n : ℕ) → 1 ≤ n → left b n ≡ n - 1
 unfolding left
@@ -75,6 +72,10 @@ module _ (l : List ℕ) where
   pub size-listed : (b : ℕ) → l ≡ groupSizes → getD l b 0 ≡ size b
   unfolding size entry
   size-listed b e = rw e
+
+  -- a group has a code
+  pub some-size : (b : ℕ) → l ≡ groupSizes → b < 16 → 1 ≤ getD l b 0
+  some-size b e h = omega (arith, size-listed b e, row b h .size-least)
 
   pub widths-long : l ≡ quantizationBits → length l ≡ 16
   unfolding quantizationBits

@@ -6,16 +6,18 @@ use Prim.Native.Nat.{ℕ, zero, suc, _+_, _-_, _≤_, _<_}
 use native.Mathlib.Omega.{arith}
 use native.Mathlib.Decide.{decLe}
 use lib.Dec.{ltb}
-use lib.ListN.{length, take, drop, getD, replicate, length-take, length-drop}
+use lib.ListN.{length, take, drop, getD, length-take, length-drop}
 use Rattle.bits.specs.Parts.{joined}
-use Rattle.bits.specs.PartsLaws.{joined-zero, joined-more}
+use Rattle.bits.specs.PartsLaws.{joined-more}
+use Rattle.bits.specs.Tests.{by-bool}
 use Rattle.mantissas.specs.Blocks.{partBaps, blockBaps}
+use Rattle.mantissas.specs.BlocksLaws.{block-most}
 use Rattle.mantissas.specs.Digits.{Below, nil, cons}
-use Rattle.mantissas.specs.Inner.{CountsOn, Ends}
-use Rattle.mantissas.proofs.Counting.{count-then, count-none, count-all}
-use Rattle.mantissas.specs.State.{by-bool}
+use Rattle.mantissas.specs.Formula.{count, alone}
+use Rattle.mantissas.specs.Inner.{Ends}
 use Rattle.mantissas.specs.Stream.{bapsFit, bitCount}
-use Rattle.mantissas.specs.declared.count.Tally.{Tally}
+use Rattle.mantissas.specs.Tally.{tallyOf, tallyBits}
+use Rattle.mantissas.specs.TallyLaws.{tally-append, tally-bits}
 use Rattle.sheet.specs.Layout.{bufferLength, PartStart}
 
 -- ---- the baps of a part are among those of the whole
@@ -76,16 +78,15 @@ fits-block channels block ends bap i h e = h ∙ ap (λ (n : ℕ). bapsFit (join
 
 -- ---- the count
 
-pub tally-start : (f : ℕ → List ℕ) (st : List ℕ) → CountsOn (joined 0 f) st (record { left = st; bits = 0 })
-tally-start f st = rw (joined-zero f) (count-none st)
+pub tally-start : (f : ℕ → List ℕ) → 0 ≡ tallyOf (joined 0 f)
+unfolding joined tallyOf alone count
+tally-start f = refl
 
-pub tally-more : (f : ℕ → List ℕ) (i : ℕ) (l st left : List ℕ) (n : ℕ) (t : Tally) → CountsOn (joined i f) st (record { left = left; bits = n })
-    → CountsOn l left t → l ≡ f i → CountsOn (joined (i + 1) f) st (record { left = t .left; bits = n + t .bits })
-tally-more f i l st left n t c d e = rw (joined-more i f, ← e) (count-then c d)
+pub tally-more : (f : ℕ → List ℕ) (i : ℕ) (l : List ℕ) (n r : ℕ) → n ≡ tallyOf (joined i f) → r ≡ n + tallyOf l → l ≡ f i → r ≡ tallyOf (joined (i + 1) f)
+tally-more f i l n r h q e = rw (joined-more i f, q, h, e) (sym (tally-append (joined i f) (f i)))
 
-pub tally-block : (channels block : ℕ) (ends bap left : List ℕ) (n i : ℕ)
-    → CountsOn (joined i (partBaps channels ends bap block)) (replicate 16 0) (record { left = left; bits = n }) → i ≡ channels
-    → n ≡ bitCount (blockBaps channels ends bap block)
-unfolding blockBaps
-tally-block channels block ends bap left n i c e =
-    count-all (record { left = left; bits = n }) c .0 ∙ ap (λ (k : ℕ). bitCount (joined k (partBaps channels ends bap block))) e
+pub tally-block : {channels : ℕ} {ends : List ℕ} (bap : List ℕ) (block n r i : ℕ) → Ends channels ends → Below 16 (blockBaps channels ends bap block)
+    → n ≡ tallyOf (joined i (partBaps channels ends bap block)) → i ≡ channels → r ≡ tallyBits n → r ≡ bitCount (blockBaps channels ends bap block)
+tally-block {channels} {ends} bap block n r i e b h q d =
+    let whole : n ≡ tallyOf (blockBaps channels ends bap block) = unfold blockBaps in h ∙ ap (λ (k : ℕ). tallyOf (joined k (partBaps channels ends bap block))) q in
+    d ∙ ap tallyBits whole ∙ tally-bits b (omega (arith, block-most bap block e, e .channels-most))

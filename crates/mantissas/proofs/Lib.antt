@@ -2,9 +2,9 @@ pub mod Answers
 pub mod Arrays
 pub mod Joining
 pub mod Checking
-pub mod Counting
 pub mod GroupReading
 pub mod Grouping
 pub mod Reading
 pub mod Values
+pub mod Weighing
 pub mod Writing

@@ -13,8 +13,9 @@ use borrow.Author.Tests.{eqb-true, eqb-false}
 use Rattle.bits.specs.Read.{from}
 use Rattle.mantissas.proofs.Arrays.{zeros-at}
 use Rattle.bits.specs.Reading.{Outcome, ok, fault, then}
+use Rattle.bits.specs.Tests.{by-bool}
 use Rattle.mantissas.specs.Digits.{digits}
-use Rattle.mantissas.specs.State.{by-bool, update}
+use Rattle.mantissas.specs.State.{update}
 use Rattle.mantissas.specs.Stream.{readGroup, members, readFrom, readStream}
 use Rattle.mantissas.specs.Ranges.{size, levels, width}
 

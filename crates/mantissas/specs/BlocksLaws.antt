@@ -1,22 +1,37 @@
--- The counts of an accepted call are the lengths of the blocks' streams, whatever the codes are.
+-- A block has at most 256 baps for each channel, and the counts of an accepted call are the lengths of the blocks' streams, whatever the
+-- codes are.
 use mathlib.Core.Path.{_≡_, sym, _∙_}
 use mathlib.Core.List.{List}
-use Prim.Native.Nat.{ℕ, _<_}
+use Prim.Native.Nat.{ℕ, zero, suc, _*_, _≤_, _<_}
+use native.Mathlib.Nat.{mul-suc}
 use native.Mathlib.Omega.{arith}
 use lib.Dec.{eqb}
 use borrow.Author.Tests.{eqb-false}
-use lib.ListN.{length, getD}
+use lib.ListN.{length, getD, length-append, length-take}
 use Rattle.bits.specs.Parts.{joined}
 use Rattle.bits.specs.PartsLaws.{getD-tab}
 use Rattle.bits.specs.Refusal as refusal
-use Rattle.mantissas.specs.Blocks.{blockBaps, blocksAnswer, totalAnswer}
+use Rattle.bits.specs.Tests.{by-bool}
+use Rattle.mantissas.specs.Blocks.{partBaps, blockBaps, blocksAnswer, totalAnswer}
 use Rattle.mantissas.specs.Count.{length-stream}
-use Rattle.mantissas.specs.State.{by-bool}
+use Rattle.mantissas.specs.Inner.{Ends}
 use Rattle.mantissas.specs.Stream.{Coded, bapsFit, stream, bitCount}
 use Rattle.sheet.specs.Common.{commonOf, channelsOf}
 use Rattle.sheet.specs.Layout.{bufferLength}
 use Rattle.sheet.specs.Record.{endsOf}
 use Rattle.sheet.specs.Sheet.{checkOf}
+
+-- parts of at most z entries each
+pub joined-most : {A : Type 0} (z : ℕ) (f : ℕ → List A) (k : ℕ) → ((i : ℕ) → i < k → length (f i) ≤ z) → length (joined k f) ≤ z * k
+unfolding joined
+joined-most z f zero h = omega arith
+joined-most z f (suc k) h = rw (length-append, mul-suc) (omega (arith, joined-most z f k (λ i l. h i (omega arith)), h k (omega arith)))
+
+-- a block
+pub block-most : {channels : ℕ} {ends : List ℕ} (bap : List ℕ) (block : ℕ) → Ends channels ends → length (blockBaps channels ends bap block) ≤ 256 * channels
+unfolding blockBaps partBaps
+block-most {channels} bap block e =
+    joined-most 256 _ channels (λ c l. rw length-take (omega (arith, e .end-most c l)))
 
 -- with the number of channels and their ends known
 pub blocks-are-lengths : (channels : ℕ) (ends bap : List ℕ) (block : ℕ) (cs : List ℕ) → blocksAnswer channels ends bap .refusal ≡ refusal.accepted

@@ -1,11 +1,13 @@
 -- What `Coded` says, and that the tests of Stream.antt are tests of it.
 use mathlib.Core.Path.{_≡_, refl, sym, ap}
 use mathlib.Core.Bool.{true, true≢false}
-use mathlib.Core.List.{List, [], _∷_}
-use Prim.Native.Nat.{ℕ, zero, suc}
+use mathlib.Core.List.{List, [], _∷_, _++_}
+use Prim.Native.Nat.{ℕ, zero, suc, _<_}
+use native.Mathlib.Omega.{arith}
 use lib.Dec.{ltb}
-use lib.ListN.{length, drop}
+use lib.ListN.{length, take, drop}
 use borrow.Author.Tests.{lt-ltb, ltb-true}
+use Rattle.bits.specs.Parts.{joined}
 use Rattle.bits.specs.Tests.{both}
 use Rattle.mantissas.specs.Digits.{Below, nil, cons}
 use Rattle.mantissas.specs.Ranges.{levels}
@@ -23,6 +25,20 @@ pub coded-drop : (i : ℕ) {bs cs : List ℕ} → Coded bs cs → Coded (drop i 
 coded-drop zero h = h
 coded-drop (suc i) empty = empty
 coded-drop (suc i) (bin hb hc h) = coded-drop i h
+
+pub coded-take : (i : ℕ) {bs cs : List ℕ} → Coded bs cs → Coded (take i bs) (take i cs)
+coded-take zero h = empty
+coded-take (suc i) empty = empty
+coded-take (suc i) (bin hb hc h) = bin hb hc (coded-take i h)
+
+coded-append : {bs cs ds es : List ℕ} → Coded bs cs → Coded ds es → Coded (bs ++ ds) (cs ++ es)
+coded-append empty k = k
+coded-append (bin hb hc h) k = bin hb hc (coded-append h k)
+
+pub coded-joined : (n : ℕ) (f g : ℕ → List ℕ) → ((i : ℕ) → i < n → Coded (f i) (g i)) → Coded (joined n f) (joined n g)
+unfolding joined
+coded-joined zero f g h = empty
+coded-joined (suc n) f g h = coded-append (coded-joined n f g (λ i l. h i (omega arith))) (h n (omega arith))
 
 -- ---- the tests
 

@@ -8,10 +8,11 @@ use lib.Dec.{eqb, ltb}
 use lib.ListN.{length, length-append}
 use borrow.Author.Tests.{eqb-true, eq-eqb, ne-eqb, ltb-true, ltb-false}
 use Rattle.bits.specs.FieldLaws.{length-field}
+use Rattle.bits.specs.Tests.{by-bool}
 use Rattle.mantissas.specs.CodedLaws.{coded-baps}
 use Rattle.mantissas.specs.Digits.{Below, nil, cons}
 use Rattle.mantissas.specs.Formula.{formula}
-use Rattle.mantissas.specs.State.{by-bool, update, update-same, update-other}
+use Rattle.mantissas.specs.State.{update, update-same, update-other}
 use Rattle.mantissas.specs.Stream.{Coded, empty, bin, ofBap, groupCode, fieldAt, left, fields, stream, cost, countFrom, bitCount}
 use Rattle.mantissas.specs.Ranges.{size, width, groupSizes, row}
 use Rattle.tables.specs.Entry.{entry}
@@ -33,6 +34,23 @@ length-fields s (bin {b} {c} {bs} {cs} hb hc h) =
 pub length-stream : {bs cs : List ℕ} → Coded bs cs → length (stream bs cs) ≡ bitCount bs
 unfolding stream bitCount
 length-stream h = length-fields (λ k. 0) h
+
+-- ---- how many they are at most
+
+cost-most : (b n : ℕ) → b < 16 → cost b n ≤ 16
+unfolding cost
+cost-most b zero h = row b h .width-most
+cost-most b (suc n) h = omega arith
+
+counted-most : (s : ℕ → ℕ) {bs : List ℕ} → Below 16 bs → countFrom s bs ≤ 16 * length bs
+unfolding countFrom
+counted-most s nil = omega arith
+counted-most s (cons {x = b} hb h) = omega (arith, cost-most b (s b) hb, counted-most (update s b (left b (s b))) h)
+
+-- a bin has at most 16 bits
+pub bits-most : {bs : List ℕ} → Below 16 bs → bitCount bs ≤ 16 * length bs
+unfolding bitCount
+bits-most h = counted-most (λ k. 0) h
 
 -- ---- by baps
 

@@ -6,14 +6,15 @@ use Prim.Native.Nat.{ℕ, zero, suc, _^_, _≤_, _<_}
 use native.Mathlib.Omega.{arith}
 use lib.Dec.{eqb, ltb}
 use borrow.Author.Tests.{eqb-true, ltb-true}
-use Rattle.bits.specs.Reading.{Outcome, ok, fault, then, readBits}
+use Rattle.bits.specs.Reading.{Outcome, ok, fault, readBits}
 use Rattle.bits.specs.Readers.{fault-not-ok}
 use Rattle.bits.specs.ReadingLaws.{then-ok}
 use Rattle.bits.specs.Refusal as refusal
+use Rattle.bits.specs.Tests.{by-bool}
 use Rattle.mantissas.specs.Digits.{digits, Below, nil, cons}
 use Rattle.mantissas.specs.DigitsLaws.{digits-below}
 use Rattle.mantissas.specs.Ranges.{size, levels, width, row}
-use Rattle.mantissas.specs.State.{by-bool, update}
+use Rattle.mantissas.specs.State.{update}
 use Rattle.mantissas.specs.Stream.{Coded, empty, bin, judged, readGroup, members, readFrom, readStream}
 
 -- what a reading gives is one value

@@ -1,18 +1,16 @@
--- Contracts of the inner functions: the value of the group that begins at a bin, what reading a group's field gives, a count that goes on,
--- and what is asked of a sheet's ends.
+-- Contracts of the inner functions: the value of the group that begins at a bin, what reading a group's field gives, what a reader's
+-- state holds, and what is asked of a sheet's ends.
 use mathlib.Core.Path.{_≡_}
 use mathlib.Core.Bool.{Bool}
-use mathlib.Core.List.{List, _++_}
-use Prim.Native.Nat.{ℕ, _+_, _*_, _≤_, _<_}
+use mathlib.Core.List.{List}
+use Prim.Native.Nat.{ℕ, _+_, _≤_, _<_}
 use lib.ListN.{length, drop, getD}
 use Rattle.bits.specs.Read.{from}
 use Rattle.bits.specs.Reading.{ok, fault}
 use Rattle.bits.specs.Refusal as refusal
 use Rattle.bits.specs.declared.answer.Answer.{Answer}
 use Rattle.mantissas.specs.Ranges.{size, width}
-use Rattle.mantissas.specs.Stream.{ofBap, groupCode, countFrom, readGroup}
-use Rattle.mantissas.specs.State.{at}
-use Rattle.mantissas.specs.declared.count.Tally.{Tally}
+use Rattle.mantissas.specs.Stream.{ofBap, groupCode, readGroup}
 
 -- the value of the field that begins at bin i
 unfoldable pub groupAt : ℕ → List ℕ → List ℕ → ℕ
@@ -28,11 +26,6 @@ pub record GroupRead (b : ℕ) (bits : List Bool) (pos : ℕ) (r : Answer) : Typ
 -- less than a group is still to come of each bap
 pub record Started (st : List ℕ) : Type 0 where
   pub less : (k : ℕ) → k < 16 → getD st k 0 < size k
-
--- the baps bs were counted from the state st on, with the tally t: whatever comes after them, the whole is the same
-pub record CountsOn (bs st : List ℕ) (t : Tally) : Type 0 where
-  pub same : (more : List ℕ) → t .bits + countFrom (at (t .left)) more ≡ countFrom (at st) (bs ++ more)
-  pub most : t .bits ≤ 16 * length bs
 
 -- what the count of blocks asks of the number of channels and their ends; an accepted sheet has it
 pub record Ends (channels : ℕ) (ends : List ℕ) : Type 0 where

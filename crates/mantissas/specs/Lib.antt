@@ -9,6 +9,8 @@ pub mod InRange
 pub mod Formula
 pub mod Count
 pub mod Calls
+pub mod Tally
+pub mod TallyLaws
 pub mod Inner
 pub mod Blocks
 pub mod BlocksLaws

@@ -1,16 +1,11 @@
 -- Something for each bap, as the writer, the count and the reader keep it: a function of the bap, changed at one place.
 use mathlib.Core.Path.{_≡_, refl}
-use mathlib.Core.Bool.{Bool, true, false, cond}
+use mathlib.Core.Bool.{cond}
 use mathlib.Core.List.{List}
 use Prim.Native.Nat.{ℕ}
 use lib.Dec.{eqb}
 use lib.ListN.{getD}
 use borrow.Author.Tests.{eq-eqb, ne-eqb}
-
--- by cases on a test, with its outcome at hand
-pub by-bool {ℓ} : {X : Type ℓ} (t : Bool) → (t ≡ true → X) → (t ≡ false → X) → X
-by-bool true f g = f refl
-by-bool false f g = g refl
 
 -- x at b, as before elsewhere
 unfoldable pub update : {A : Type 0} → (ℕ → A) → ℕ → A → ℕ → A

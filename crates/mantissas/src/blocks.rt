@@ -1,6 +1,7 @@
 // The mantissa bits of a frame's six blocks (000 `mantissa_bits_total_ends`, coupling off).
 use crate::code::check_baps;
-use crate::count::count_part;
+use crate::count::bits_of;
+use crate::count::weigh;
 use bits::refusal::ACCEPTED;
 use bits::refusal::BAD_CODE;
 use bits::refusal::WRONG_LENGTH;
@@ -58,23 +59,20 @@ fn check_blocks(bap: &[u8], channels: usize, ends: [usize; 6]) -> bool
     all
 }
 
-// The mantissa bits of a block: groups run on from channel to channel.
-fn count_block(bap: &[u8], channels: usize, ends: [usize; 6], block: usize) -> u32
+// The mantissa bits of a block: groups run on from channel to channel, so one tally goes over them all.
+pub fn count_block(bap: &[u8], channels: usize, ends: [usize; 6], block: usize) -> u32
     requires { ⌜ Ends channels ends ⌝ }
     requires { ⌜ (block < 6) × (length (now bap) ≡ bufferLength channels) ⌝ }
     requires { ⌜ Below 16 (blockBaps channels ends (now bap) block) ⌝ }
     ensures { λ r. ⌜ r ≡ bitCount (blockBaps channels ends (now (bap .entry)) block) ⌝ }
 {
-    let mut left = [0u8; 16];
-    let mut total: u32 = 0;
+    let mut tally: u64 = 0;
     for c in 0..channels {
         let a = sheet::part_start(channels, block, c);
         let e = a + ends[c];
-        let part = count_part(&bap[a..e], left);
-        left = part.left;
-        total += part.bits;
+        tally = weigh(&bap[a..e], tally);
     }
-    total
+    bits_of(tally)
 }
 
 // Groups never cross blocks.

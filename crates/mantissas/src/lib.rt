@@ -6,6 +6,7 @@ pub mod reader;
 pub mod stream;
 
 pub use blocks::MantissaBits;
+pub use blocks::count_block;
 pub use blocks::mantissa_bits_total_ends;
 pub use count::count_mantissas;
 pub use reader::get_mantissas;

@@ -8,7 +8,7 @@ use lib.Dec.{T}
 use lib.Ieee.{Float, nan, inf, fin, up, down, below, lt, isNan}
 use lib.Ieee.Fits.{down-pos}
 use borrow.Author.Tests.{lt-ltb, le-ltb, ltb-true, ltb-false}
-use Rattle.mantissas.specs.State.{by-bool}
+use Rattle.bits.specs.Tests.{by-bool}
 
 -- a / p < b / q ≤ c / r
 up-to : (a p b q c r : ℕ) → 0 < r → a * q < b * p → b * r ≤ c * q → a * r < c * p

@@ -16,8 +16,8 @@ use lib.Ieee.Fits.{down-pos, kept-lt}
 use lib.Ieee.Nearest.{div-same}
 use lib.Ieee.Positive.{num, den}
 use borrow.Author.Tests.{le-ltb, ltb-false}
+use Rattle.bits.specs.Tests.{by-bool}
 use Rattle.shaping.specs.FloatLaws.{smallest, smallest-exact, digits-below, biased-is, finite-number}
-use Rattle.mantissas.specs.State.{by-bool}
 use Rattle.quantiser.specs.Scale.{zero32, within}
 use Rattle.quantiser.specs.ScaleLaws.{within-finite}
 use Rattle.quantiser.specs.Asymmetric.{halfAway, signedCode}

@@ -10,7 +10,7 @@ use lib.Dec.{T, ltb}
 use lib.Ieee.{Float, nan, inf, fin, binary32, up, down, round, lt, sub, neg, isNan}
 use lib.Ieee.Scale.{finite}
 use lib.ListN.{length, getD}
-use Rattle.mantissas.specs.State.{by-bool}
+use Rattle.bits.specs.Tests.{by-bool}
 use Rattle.quantiser.specs.OrderLaws.{lt-past, lt-not-back, lt-through, lt-self, lt-nothing}
 use Rattle.quantiser.specs.Scale.{zero32}
 use Rattle.quantiser.specs.ScaleLaws.{round-no-nan}

@@ -7,8 +7,8 @@ use Rattle.bits.specs.Parts.{tab}
 use Rattle.bits.specs.PartsLaws.{tab-start}
 use Rattle.frame.specs.Layout.{rowOf}
 use Rattle.frame.specs.Body.{setsBits, mantissaBits, exponentCounts, mantissaCounts, countsOf}
-use Rattle.frame_rows.specs.RowsLaws.{row-inside, held-most}
-use Rattle.frame_body.proofs.Blocks.{part-asked, sets-counted, mantissas-counted}
+use Rattle.frame_body.proofs.Below.{held-ends}
+use Rattle.frame_body.proofs.Blocks.{block-below, sets-counted, mantissas-counted}
 use Rattle.frame_body.proofs.Counting.{two-more, two-end}
 use native.Mathlib.Omega.{arith}
 use borrow.Author.Needs.{needs}
@@ -16,50 +16,38 @@ use Rattle.frame_body.proofs.count.count_body.Statement.{statement}
 use Rattle.frame_body.proofs.count.count_body.Tie as tie
 
 abbrev Inv-loop : tie.InvT-loop
-Inv-loop sheet track strategies exps bap codes n counts₀ b₀ counts b =
+Inv-loop sheet track strategies exps bap codes ends counts₀ b₀ counts b =
     (b ≤ 6) × (length counts ≡ 12)
     × (take b counts ≡ tab b (λ j. length (setsBits sheet j (rowOf sheet j exps))))
     × (take b (drop 6 counts) ≡ tab b (λ j. length (mantissaBits sheet (rowOf sheet j exps) (rowOf sheet j codes))))
 
 abbrev μ-loop : tie.MeasureT-loop
-μ-loop sheet track strategies exps bap codes n counts₀ b₀ counts b = 6 - b
-
-mul-n : tie.Need-mul-n Inv-loop μ-loop
-mul-n c = omega (arith, held-most (c .before .before .before .before .before .pre .0))
+μ-loop sheet track strategies exps bap codes ends counts₀ b₀ counts b = 6 - b
 
 loop-holds : tie.Need-loop-holds Inv-loop μ-loop
 loop-holds c = (omega arith, omega arith, tab-start _ [], tab-start _ [])
 
-mul-a : tie.Need-mul-a Inv-loop μ-loop
-mul-a c = omega (arith, row-inside (c .before .before .before .before .before .before .before .pre .0) _ (c .loop-test .taken))
-
-add-e : tie.Need-add-e Inv-loop μ-loop
-add-e c = omega (arith, row-inside (c .before .before .before .before .before .before .before .pre .0) _ (c .loop-test .taken))
-
 count-sets-requires : tie.Need-count-sets-requires Inv-loop μ-loop
 count-sets-requires c κs = (c .before .before .before .before .before .before .before .pre .0, c .loop-test .taken)
 
-part-count-mantissas-end : tie.Need-part-count-mantissas-end Inv-loop μ-loop
-part-count-mantissas-end c = omega (arith, row-inside (c .before .before .before .before .before .before .before .before .pre .0) _ (c .before .loop-test .taken))
-
-count-mantissas-requires : tie.Need-count-mantissas-requires Inv-loop μ-loop
-count-mantissas-requires c κs =
-    let g = c .before .before .before .before .before .before .before .before .before .args in
-    let p = c .before .before .before .before .before .before .before .before .before .pre in
-    part-asked (p .0) (g .exps .now) (g .bap .now) (g .codes .now) (p .1 .1 .0) (p .1 .1 .1) (c .before .before .before .loop .b) (c .before .before .loop-test .taken) (p .1 .0 .1)
+count-block-requires : tie.Need-count-block-requires Inv-loop μ-loop
+count-block-requires c κs =
+    let g = c .before .before .before .before .before .before .before .before .args in
+    let p = c .before .before .before .before .before .before .before .before .pre in
+    (held-ends (p .0), ((omega arith, omega arith), block-below (p .0) (g .exps .now) (g .bap .now) (g .codes .now) (p .1 .1 .0) (p .1 .1 .1) _ (omega arith) (p .1 .0 .2)))
 
 loop-again : tie.Need-loop-again Inv-loop μ-loop
 loop-again c =
-    let g = c .before .before .before .before .before .before .before .before .before .before .args in
-    let p = c .before .before .before .before .before .before .before .before .before .before .pre in
-    let i = c .before .before .before .before .loop .b in
-    let inside = c .before .before .before .loop-test .taken in
+    let g = c .before .before .before .before .before .before .before .before .before .args in
+    let p = c .before .before .before .before .before .before .before .before .before .pre in
+    let i = c .before .before .before .loop .b in
+    let inside = c .before .before .loop-test .taken in
     let exps = g .exps .now in
     let bap = g .bap .now in
     let codes = g .codes .now in
-    let sets = c .before .before .count-sets .ensures ∙ sets-counted (p .0) exps bap codes (p .1 .1 .0) (p .1 .1 .1) i inside (p .1 .0 .0) in
-    let mantissas = c .count-mantissas .ensures .0 ∙ mantissas-counted (p .0) exps bap codes (p .1 .1 .0) (p .1 .1 .1) i inside in
-    let more = two-more _ _ (c .before .before .before .before .loop .counts) i (c .before .before .before .before .loop .inv .1) (c .before .before .before .before .loop .inv .2) (c .before .before .before .before .loop .inv .3) _ _ inside sets mantissas in
+    let sets = c .before .count-sets .ensures ∙ sets-counted (p .0) exps bap codes (p .1 .1 .0) (p .1 .1 .1) i inside (p .1 .0 .0) in
+    let mantissas = c .count-block .ensures ∙ mantissas-counted (p .0) exps bap codes (p .1 .1 .0) (p .1 .1 .1) i inside (p .1 .0 .2) in
+    let more = two-more _ _ (c .before .before .before .loop .counts) i (c .before .before .before .loop .inv .1) (c .before .before .before .loop .inv .2) (c .before .before .before .loop .inv .3) _ _ inside sets mantissas in
     (omega arith, more .0, more .1, more .2)
 
 returns : tie.Need-returns Inv-loop μ-loop
@@ -72,17 +60,11 @@ count-body-spec =
     (tie.spec
     Inv-loop
     μ-loop
-    mul-n
     loop-holds
-    mul-a
-    add-e
     count-sets-requires
     (λ c. search needs)
     (λ c. search needs)
-    (λ c. search needs)
-    (λ c. search needs)
-    part-count-mantissas-end
-    count-mantissas-requires
+    count-block-requires
     (λ c. search needs)
     (λ c. search needs)
     (λ c. search needs)

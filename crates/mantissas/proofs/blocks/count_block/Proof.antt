@@ -1,58 +1,53 @@
--- After c channels: their baps are counted.
-use Prim.Native.Nat.{_*_, _-_, _≤_}
+-- After c channels: their baps are weighed.
+use mathlib.Core.Path.{_≡_}
+use Prim.Native.Nat.{_*_, _-_, _^_, _≤_}
 use native.Mathlib.Omega.{arith}
-use lib.ListN.{replicate}
 use borrow.Author.Needs.{needs}
 use Rattle.bits.specs.Parts.{joined}
 use Rattle.mantissas.specs.Blocks.{partBaps}
-use Rattle.mantissas.specs.Inner.{CountsOn, Started}
-use Rattle.mantissas.proofs.Arrays.{started-zeros}
+use Rattle.mantissas.specs.Tally.{tallyOf}
 use Rattle.mantissas.proofs.Joining.{part-taken, part-fits, part-length, part-below, tally-start, tally-more, tally-block}
 use Rattle.mantissas.proofs.blocks.count_block.Statement.{statement}
 use Rattle.mantissas.proofs.blocks.count_block.Tie as tie
 
 abbrev Inv-loop : tie.InvT-loop
-Inv-loop bap channels block ends left₀ total₀ c₀ left total c =
-    CountsOn (joined c (partBaps channels ends bap block)) (replicate 16 0) (record { left = left; bits = total })
-    × (c ≤ channels)
-    × (total ≤ 4096 * c)
-    × Started left
+Inv-loop bap channels block ends tally₀ c₀ tally c =
+    (tally ≡ tallyOf (joined c (partBaps channels ends bap block))) × (c ≤ channels) × (tally ≤ 2 ^ 38 * (256 * c))
 
 abbrev μ-loop : tie.MeasureT-loop
-μ-loop bap channels block ends left₀ total₀ c₀ left total c = channels - c
+μ-loop bap channels block ends tally₀ c₀ tally c = channels - c
 
 loop-holds : tie.Need-loop-holds Inv-loop μ-loop
-loop-holds c = (tally-start _ _, omega arith, omega arith, started-zeros)
+loop-holds c = (tally-start _, omega arith, omega arith)
 
 add-e : tie.Need-add-e Inv-loop μ-loop
 add-e c = omega (arith, part-fits (c .before .before .before .before .args .bap .now) (c .part-start .ensures) (c .before .before .before .before .pre .0) (c .before .loop-test .taken) (c .before .before .before .before .pre .1 .0 .1))
 
-part-count-part-end : tie.Need-part-count-part-end Inv-loop μ-loop
-part-count-part-end c = part-fits (c .before .before .before .before .args .bap .now) (c .part-start .ensures) (c .before .before .before .before .pre .0) (c .before .loop-test .taken) (c .before .before .before .before .pre .1 .0 .1)
+part-weigh-end : tie.Need-part-weigh-end Inv-loop μ-loop
+part-weigh-end c = part-fits (c .before .before .before .before .args .bap .now) (c .part-start .ensures) (c .before .before .before .before .pre .0) (c .before .loop-test .taken) (c .before .before .before .before .pre .1 .0 .1)
 
-count-part-requires : tie.Need-count-part-requires Inv-loop μ-loop
-count-part-requires c κs =
+weigh-requires : tie.Need-weigh-requires Inv-loop μ-loop
+weigh-requires c κs =
     let p = c .before .part-start .ensures in
     let e = c .before .before .before .before .before .pre .0 in
     let h = c .before .before .loop-test .taken in
-    (part-below _ p e h (c .before .before .before .before .before .pre .1 .1), (omega (arith, part-length (c .before .before .before .before .before .args .bap .now) p e h), c .before .before .before .loop .inv .3))
-
-add-total : tie.Need-add-total Inv-loop μ-loop
-add-total c =
-    omega (arith, c .before .before .count-part .ensures .0 .most, part-length (c .before .before .before .before .before .before .before .before .args .bap .now) (c .before .before .before .before .part-start .ensures) (c .before .before .before .before .before .before .before .before .pre .0) (c .before .before .before .before .before .loop-test .taken))
+    (part-below _ p e h (c .before .before .before .before .before .pre .1 .1), omega (arith, part-length (c .before .before .before .before .before .args .bap .now) p e h, e .channels-most))
 
 loop-again : tie.Need-loop-again Inv-loop μ-loop
 loop-again c =
-    let p = c .before .before .before .before .part-start .ensures in
-    let d = c .before .before .count-part .ensures .0 in (
-      tally-more _ _ _ _ _ _ _ (c .before .before .before .before .before .before .loop .inv .0) d (part-taken _ _ p),
+    let p = c .before .before .part-start .ensures in
+    let e = c .before .before .before .before .before .before .pre .0 in
+    let most = part-length (c .before .before .before .before .before .before .args .bap .now) p e (c .before .before .before .loop-test .taken) in (
+      tally-more _ _ _ _ _ (c .before .before .before .before .loop .inv .0) (c .weigh .ensures .0) (part-taken _ _ p),
       omega arith,
-      omega (arith, d .most, part-length (c .before .before .before .before .before .before .before .before .args .bap .now) p (c .before .before .before .before .before .before .before .before .pre .0) (c .before .before .before .before .before .loop-test .taken)),
-      c .before .before .count-part .ensures .1,
+      omega (arith, c .weigh .ensures .1, most),
     )
 
 returns : tie.Need-returns Inv-loop μ-loop
-returns c = tally-block _ _ _ _ _ _ _ (c .before .loop .inv .0) (omega arith)
+returns c =
+    let a = c .before .before .before .before .args in
+    let p = c .before .before .before .before .pre in
+    tally-block (a .bap .now) (a .block) _ _ _ (p .0) (p .1 .1) (c .before .before .loop .inv .0) (omega arith) (c .bits-of .ensures)
 
 pub count-block-spec : {M : Type 1} → statement M
 count-block-spec =
@@ -67,10 +62,10 @@ count-block-spec =
     add-e
     (λ c. omega arith)
     (λ c. omega arith)
-    part-count-part-end
-    count-part-requires
-    add-total
+    part-weigh-end
+    weigh-requires
     (λ c. omega arith)
     (λ c. omega arith)
     loop-again
+    (λ c κs. search needs)
     returns)

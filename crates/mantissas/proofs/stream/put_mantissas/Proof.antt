@@ -6,8 +6,7 @@ use Rattle.mantissas.specs.Digits.{below-at}
 use Rattle.mantissas.specs.CodedLaws.{coded-baps, coded-length}
 use Rattle.tables.specs.Quantizer.{quantizationBits}
 use Rattle.mantissas.specs.Ranges.{groupSizes, row}
-use Rattle.mantissas.proofs.Arrays.{sizes-long, size-listed, widths-long, width-listed}
-use Rattle.mantissas.proofs.Counting.{some-size}
+use Rattle.mantissas.proofs.Arrays.{sizes-long, size-listed, some-size, widths-long, width-listed}
 use Rattle.mantissas.proofs.Writing.{Writing, write-start, write-ready, write-none, write-new, write-old, write-end}
 use native.Mathlib.Omega.{arith}
 use borrow.Author.Needs.{needs}
