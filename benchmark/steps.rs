@@ -91,10 +91,13 @@ fn shaping(rounds: usize, all: &[Input], end: u8) {
 }
 
 fn groups(rounds: usize) {
-    let (mut a, mut b) = ([0u32], [0u32]);
-    let port = |_: usize| (0..=256).for_each(|end| keep(entries::ngrps_for_strategy(end, 1 << (end % 3), black_box(&mut a))));
-    let rust = |_: usize| (0..=256).for_each(|end| packed::groups(end, 1 << (end % 3), black_box(&mut b)));
-    both(rounds, "ngrps_for_strategy", "257 calls", port, rust);
+    let (mut a, mut b, mut c) = ([0u32], [0u32], [0u32]);
+    let mut port = |_: usize| (0..=256).for_each(|end| keep(entries::ngrps_for_strategy(end, 1 << (end % 3), black_box(&mut a))));
+    let mut rust = |_: usize| (0..=256).for_each(|end| packed::groups(end, 1 << (end % 3), black_box(&mut b)));
+    let mut answered = |_: usize| (0..=256).for_each(|end| keep(packed::groups_answered(end, 1 << (end % 3), black_box(&mut c))));
+    let taken = times(rounds, &mut [&mut port, &mut rust, &mut answered]);
+    line("ngrps_for_strategy", "257 calls", &taken[..2]);
+    line("ngrps_for_strategy, the Rust answering a number too", "257 calls", &[taken[0].clone(), taken[2].clone()]);
 }
 
 fn strategies(rounds: usize, all: &[Input], end: u8) {

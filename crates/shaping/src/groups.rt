@@ -3,6 +3,8 @@ ghost use mathlib.Core.Path.{_≡_};
 ghost use Prim.Native.Nat.{_-_, _/_, _≤_};
 ghost use Rattle.shaping.specs.Groups.{groups, groupsAnswer};
 ghost use Rattle.shaping.specs.GroupsLaws.{sharing};
+use bits::refusal::ACCEPTED;
+use bits::refusal::OUT_OF_RANGE;
 
 // The groups of D15; an end of 0 has none.
 fn thirds(end: usize) -> usize
@@ -32,22 +34,24 @@ pub fn groups_of(end: usize, grpsize: usize) -> usize
     shared(thirds(end), grpsize)
 }
 
-// One chain of tests both knows a span and finds its formula.
+// One chain of tests both knows a span and finds its formula; number and refusal stay apart up to the end, where the answer is put together.
 pub fn ngrps_for_strategy(end: usize, grpsize: usize) -> bits::Answer
     ensures { λ r. ⌜ r ≡ groupsAnswer end grpsize ⌝ }
 {
-    if 256 < end {
-        return bits::refused(bits::refusal::OUT_OF_RANGE);
+    let mut refusal = OUT_OF_RANGE;
+    let mut value = 0u32;
+    if end <= 256 {
+        let d15 = thirds(end);
+        if grpsize == 1 {
+            refusal = ACCEPTED;
+            value = shared(d15, 1) as u32;
+        } else if grpsize == 2 {
+            refusal = ACCEPTED;
+            value = shared(d15, 2) as u32;
+        } else if grpsize == 4 {
+            refusal = ACCEPTED;
+            value = shared(d15, 4) as u32;
+        }
     }
-    let d15 = thirds(end);
-    if grpsize == 1 {
-        return bits::accepted(shared(d15, 1) as u32);
-    }
-    if grpsize == 2 {
-        return bits::accepted(shared(d15, 2) as u32);
-    }
-    if grpsize == 4 {
-        return bits::accepted(shared(d15, 4) as u32);
-    }
-    bits::refused(bits::refusal::OUT_OF_RANGE)
+    bits::Answer { refusal, value }
 }
