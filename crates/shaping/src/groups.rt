@@ -3,6 +3,7 @@ ghost use mathlib.Core.Path.{_≡_};
 ghost use Prim.Native.Nat.{_-_, _/_, _≤_};
 ghost use Rattle.shaping.specs.Groups.{groups, groupsAnswer};
 ghost use Rattle.shaping.specs.GroupsLaws.{sharing};
+use crate::spans::is_span;
 use bits::refusal::ACCEPTED;
 use bits::refusal::OUT_OF_RANGE;
 
@@ -34,13 +35,14 @@ pub fn groups_of(end: usize, grpsize: usize) -> usize
     shared(thirds(end), grpsize)
 }
 
-// One chain of tests both knows a span and finds its formula; number and refusal stay apart up to the end, where the answer is put together.
+// One chain of tests both knows a span and finds its formula, and one test holds an end between 1 and 256; number and refusal stay apart up
+// to the end, where the answer is put together.
 pub fn ngrps_for_strategy(end: usize, grpsize: usize) -> bits::Answer
     ensures { λ r. ⌜ r ≡ groupsAnswer end grpsize ⌝ }
 {
     let mut refusal = OUT_OF_RANGE;
     let mut value = 0u32;
-    if end <= 256 {
+    if (1 <= end) & (end <= 256) {
         let d15 = thirds(end);
         if grpsize == 1 {
             refusal = ACCEPTED;
@@ -52,6 +54,8 @@ pub fn ngrps_for_strategy(end: usize, grpsize: usize) -> bits::Answer
             refusal = ACCEPTED;
             value = shared(d15, 4) as u32;
         }
+    } else if (end == 0) & is_span(grpsize) {
+        refusal = ACCEPTED;
     }
     bits::Answer { refusal, value }
 }
