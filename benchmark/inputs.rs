@@ -14,12 +14,11 @@ pub struct Input {
     pub frame: m::Frame,
 }
 
-/// A sheet of `channels` channels (the sixth is the LFE) with one end, new sets in blocks 0 and 3 as the Rust's encoder places them.
-fn sheet(g: &mut Rng, channels: u8, end: u8) -> Sheet {
-    let lfe = (channels == 6) as u8;
+/// A sheet of `full` channels with one end and `lfe` LFE, new sets in blocks 0 and 3 as the Rust's encoder places them.
+fn sheet(g: &mut Rng, full: u8, lfe: u8, end: u8) -> Sheet {
     let mut s = Sheet {
         version: 1,
-        n: channels - lfe,
+        n: full,
         lfe,
         sdcycod: 2,
         fdcycod: 1,
@@ -29,7 +28,7 @@ fn sheet(g: &mut Rng, channels: u8, end: u8) -> Sheet {
         csnroffst: 21,
         ..Default::default()
     };
-    for channel in 0..channels {
+    for channel in 0..full + lfe {
         let is_lfe = channel == s.n;
         let mut new = || if is_lfe { 1 } else { g.range(1, 3) as u8 };
         let strat = [new(), 0, 0, new(), 0, 0];
@@ -38,10 +37,16 @@ fn sheet(g: &mut Rng, channels: u8, end: u8) -> Sheet {
     s
 }
 
+/// Frames of `channels` channels, of which the sixth is the LFE.
 pub fn frames(channels: u8, end: u8) -> Vec<Input> {
-    let mut g = Rng::new(1000 * channels as u64 + end as u64);
+    let lfe = (channels == 6) as u8;
+    frames_of(channels - lfe, lfe, end)
+}
+
+pub fn frames_of(full: u8, lfe: u8, end: u8) -> Vec<Input> {
+    let mut g = Rng::new(1000 * (full + lfe) as u64 + end as u64);
     let mut made = || {
-        let sheet = sheet(&mut g, channels, end);
+        let sheet = sheet(&mut g, full, lfe, end);
         let coeffs: Vec<f32> = spectra::coefficients(&mut g, &sheet, "music");
         let frame = m::frame_of(&sheet, &coeffs);
         Input { bytes: sheet.to_bytes(), coeffs, frame, sheet }

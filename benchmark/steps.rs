@@ -1,6 +1,6 @@
 //! Every step called alone, at ends 37, 133 and 253 where it has one; the allocation at the LFE's end too.
 use crate::entries;
-use crate::inputs::{extracted, frames, row, size_of, Input, MANY};
+use crate::inputs::{extracted, frames, frames_of, row, size_of, Input, MANY};
 use crate::source::{bools, packed};
 use crate::timing::{median, times};
 use crate::{head, line};
@@ -127,8 +127,8 @@ fn selection(rounds: usize) {
 /// The entry, and less what it does before it allocates: the sheet check, the reading of the channel's record and the test of its range, which a
 /// call has in common with one that is refused for a slice too long. The Rust gets its parameters ready made.
 fn allocation(rounds: usize, end: u8) {
-    let all = if end == 7 { frames(6, 37) } else { frames(1, end) };
-    let (channel, n) = (if end == 7 { 5 } else { 0 }, end as usize);
+    let all = if end == 7 { frames_of(1, 1, 37) } else { frames(1, end) };
+    let (channel, n) = ((end == 7) as usize, end as usize);
     let exps: Vec<[u8; 256]> = all.iter().map(|i| row(&i.frame.exps[i.sheet.at(0, channel)..][..n])).collect();
     let channels: Vec<packed::Channel> = all.iter().map(|i| packed::Channel::of(&i.sheet, channel)).collect();
     let (mut a, mut b, mut c) = ([0u8; 256], [0u8; 256], [0u8; 256]);
