@@ -16,11 +16,14 @@ pub fn run(rounds: usize) {
     let each: Vec<(u8, Vec<Input>)> = ENDS.iter().map(|&end| (end, frames(1, end))).collect();
     head("Steps", &["Rust"]);
     each.iter().for_each(|(end, all)| extraction(rounds, all, *end));
+    lfe_shaping(rounds);
     each.iter().for_each(|(end, all)| shaping(rounds, all, *end));
     groups(rounds);
     each.iter().for_each(|(end, all)| strategies(rounds, all, *end));
     selection(rounds);
-    [7, 37, 133, 253].into_iter().for_each(|end| allocation(rounds, end));
+    allocation(rounds, 7, "end 7, sheet of six channels", &frames(6, 37), 5);
+    allocation(rounds, 7, "end 7, sheet of one channel and the LFE", &frames_of(1, 1, 37), 1);
+    [37, 133, 253].into_iter().for_each(|end| allocation(rounds, end, &format!("end {end}"), &frames(1, end), 0));
     each.iter().for_each(|(end, all)| quantiser(rounds, all, *end));
     count(rounds);
     environment(rounds);
@@ -62,10 +65,7 @@ fn extraction(rounds: usize, all: &[Input], end: u8) {
     both(rounds, "extract_exponent", &format!("{end} calls"), port, rust);
 }
 
-fn shaping(rounds: usize, all: &[Input], end: u8) {
-    let raw: Vec<Vec<u8>> = all.iter().map(|i| extracted(i, 0)).collect();
-    let mut shaped = raw.clone();
-    shaped.iter_mut().for_each(|e| packed::d15(e));
+fn d15(rounds: usize, raw: &[Vec<u8>], size: &str) {
     let (mut a, mut b) = (raw[0].clone(), raw[0].clone());
     let port = |i: usize| {
         a.copy_from_slice(&raw[i % MANY]);
@@ -75,8 +75,22 @@ fn shaping(rounds: usize, all: &[Input], end: u8) {
         b.copy_from_slice(&raw[i % MANY]);
         packed::d15(black_box(&mut b));
     };
+    both(rounds, "preprocess_d15", size, port, rust);
+}
+
+/// The LFE, whose seven bins the port passes as the Rust does.
+fn lfe_shaping(rounds: usize) {
+    let raw: Vec<Vec<u8>> = frames_of(1, 1, 37).iter().map(|i| extracted(i, 1)).collect();
+    d15(rounds, &raw, "end 7");
+}
+
+fn shaping(rounds: usize, all: &[Input], end: u8) {
+    let raw: Vec<Vec<u8>> = all.iter().map(|i| extracted(i, 0)).collect();
+    let mut shaped = raw.clone();
+    shaped.iter_mut().for_each(|e| packed::d15(e));
+    let (mut a, mut b) = (raw[0].clone(), raw[0].clone());
     let size = format!("end {end}");
-    both(rounds, "preprocess_d15", &size, port, rust);
+    d15(rounds, &raw, &size);
     for span in [2, 4] {
         let port = |i: usize| {
             a.copy_from_slice(&shaped[i % MANY]);
@@ -125,10 +139,10 @@ fn selection(rounds: usize) {
 }
 
 /// The entry, and less what it does before it allocates: the sheet check, the reading of the channel's record and the test of its range, which a
-/// call has in common with one that is refused for a slice too long. The Rust gets its parameters ready made.
-fn allocation(rounds: usize, end: u8) {
-    let all = if end == 7 { frames_of(1, 1, 37) } else { frames(1, end) };
-    let (channel, n) = ((end == 7) as usize, end as usize);
+/// call has in common with one that is refused for a slice too long. The Rust gets its parameters ready made. The LFE is timed under two sheets,
+/// since the longer one's check is most of both calls.
+fn allocation(rounds: usize, end: u8, size: &str, all: &[Input], channel: usize) {
+    let n = end as usize;
     let exps: Vec<[u8; 256]> = all.iter().map(|i| row(&i.frame.exps[i.sheet.at(0, channel)..][..n])).collect();
     let channels: Vec<packed::Channel> = all.iter().map(|i| packed::Channel::of(&i.sheet, channel)).collect();
     let (mut a, mut b, mut c) = ([0u8; 256], [0u8; 256], [0u8; 256]);
@@ -141,9 +155,9 @@ fn allocation(rounds: usize, end: u8) {
             &mut |i| keep(entries::compute_bap(&all[i % MANY].bytes, channel as u32, &long, black_box(&mut c[..n]))),
         ],
     );
-    line("compute_bap, the entry with its sheet check and record", &format!("end {end}"), &taken[..2]);
+    line("compute_bap, the entry with its sheet check and record", size, &taken[..2]);
     let less = taken[0].iter().zip(&taken[2]).map(|(whole, before)| whole - before).collect();
-    line("compute_bap, the allocation alone", &format!("end {end}"), &[less, taken[1].clone()]);
+    line("compute_bap, the allocation alone", size, &[less, taken[1].clone()]);
 }
 
 fn quantiser(rounds: usize, all: &[Input], end: u8) {

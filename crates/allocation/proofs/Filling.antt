@@ -109,18 +109,18 @@ module _ (p : Parameters) (powers excites added thresholds : List ℕ) (n : ℕ)
   )
 
   -- a bin's pointer by them is that by the arrays
-  from-by : (exp : List ℕ) (end : ℕ) → p .floor ≤ 5120 → ((k : ℕ) → k < 50 → 512 ≤ getD thresholds k 0) → end ≤ 253 → Bands end n
+  from-by : (exp : List ℕ) (end m : ℕ) → p .floor ≤ 5120 → ((k : ℕ) → k < 50 → 512 ≤ getD thresholds k 0) → end ≤ 253 → Bands end m → m ≤ n
       → (bin : ℕ) → bin < end → getD exp bin 0 ≤ 24 → bapFrom bases exp bin ≡ bapBy p powers excites added thresholds exp bin
   unfolding bapFrom bapBy baseBy
-  from-by exp end floor above short b bin h small =
+  from-by exp end m floor above short b more bin h small =
       let k = entry masktab bin in
-      let l : k < n = below-bands end n bin short b h in
+      let l : k < n = omega (arith, below-bands end m bin short b h) in
       rw (array-at base 111 n bases zs few e z k l) (base-bap p (getD excites k 0) (getD powers k 0) (getD thresholds k 0) (getD added k 0) (getD exp bin 0) small floor (above k (omega arith)))
 
-  pub filled-by : (exp l : List ℕ) (end : ℕ) → p .floor ≤ 5120 → ((k : ℕ) → k < 50 → 512 ≤ getD thresholds k 0) → end ≤ 253 → Bands end n
+  pub filled-by : (exp l : List ℕ) (end m : ℕ) → p .floor ≤ 5120 → ((k : ℕ) → k < 50 → 512 ≤ getD thresholds k 0) → end ≤ 253 → Bands end m → m ≤ n
       → ((bin : ℕ) → bin < end → getD exp bin 0 ≤ 24) → take end l ≡ tab end (bapFrom bases exp)
       → take end l ≡ tab end (bapBy p powers excites added thresholds exp)
-  filled-by exp l end floor above short b small t = t ∙ tab-cong _ _ end (λ bin h. from-by exp end floor above short b bin h (small bin h))
+  filled-by exp l end m floor above short b more small t = t ∙ tab-cong _ _ end (λ bin h. from-by exp end m floor above short b more bin h (small bin h))
 
 -- ---- bins
 

@@ -133,6 +133,18 @@ fn fill_joined(
     }
 }
 
+// At least so many bands, four at a time where there are so many, so that none is left over from a loop that is made of vectors.
+fn by_fours(bands: usize) -> usize
+    requires { ⌜ bands ≤ 50 ⌝ }
+    ensures { λ r. ⌜ (bands ≤ r) × (r ≤ 50) ⌝ }
+{
+    if bands <= 48 {
+        (bands + 3) / 4 * 4
+    } else {
+        bands
+    }
+}
+
 // All bins below end.
 pub fn fill_bins(
     exp: &[u8],
@@ -156,7 +168,7 @@ pub fn fill_bins(
 {
     // 111, the place of address 0, behind the last band: every base lies in the window
     let mut bases = [111u16; 50];
-    band_bases(bands, p, powers, excites, added, hth, &mut bases);
+    band_bases(by_fours(bands), p, powers, excites, added, hth, &mut bases);
     if end < SINGLES {
         fill_singles(exp, end, &bases, window, bap);
         return;

@@ -1,49 +1,14 @@
--- The backward passes in place: the bins before i are as they were, those from i on have passed.
+-- The backward pass over spans in place: the bins before i are as they were, those from i on have passed.
 use mathlib.Core.Path.{_≡_, refl, sym, ap, _∙_}
 use mathlib.Core.List.{List, [], _∷_, _++_, append-nil}
-use Prim.Native.Nat.{ℕ, zero, suc, _+_, _-_, _≤_, _<_, min}
+use Prim.Native.Nat.{ℕ, zero, suc, _+_, _-_, _≤_, _<_}
 use native.Mathlib.Omega.{arith}
 use native.Mathlib.Nat.{add-zero}
 use native.Mathlib.Numerals.{add-one, sub-one}
-use lib.ListN.{length, take, drop, getD, set, replicate, drop-of-length-le, take-append-drop, length-drop}
+use lib.ListN.{length, take, drop, getD, replicate, drop-of-length-le, take-append-drop, length-drop}
 use lib.Seq.{drop-cons, drop-length, getD-drop, length-take-le, take-length}
 use borrow.Author.Tests.{lt-ltb, le-ltb}
 use Rattle.shaping.specs.Passes.{roof, backward, lowered, frontLowered, countDown, lacks, lowerSpans}
-
--- ---- D15
-
-unfoldable pub backed : ℕ → List ℕ → List ℕ
-backed i xs = take i xs ++ backward (drop i xs)
-
-back-core : (xs : List ℕ) (j : ℕ) → suc j < length xs
-    → set (backed (suc j) xs) j (min (getD (backed (suc j) xs) j 0) (roof (getD (backed (suc j) xs) (suc j) 0))) ≡ backed j xs
-unfolding backed backward
-back-core [] j h = absurd (omega arith)
-back-core (x ∷ []) j h = absurd (omega arith)
-back-core (x ∷ y ∷ r) zero h = refl
-back-core (x ∷ y ∷ r) (suc j) h = ap (λ (l : List ℕ). x ∷ l) (back-core (y ∷ r) j (omega arith))
-
-pub back-turn : (xs e : List ℕ) (i v w : ℕ) → 0 < i → i < length xs → e ≡ backed i xs
-    → w ≡ roof (getD e (i - 1 + 1) 0) → v ≡ min (getD e (i - 1) 0) w → set e (i - 1) v ≡ backed (i - 1) xs
-back-turn xs e zero v w p h q a b = absurd (omega arith)
-back-turn xs e (suc j) v w p h q a b = rw (b, a, q, sub-one, add-one) (back-core xs j h)
-
--- the last entry stays
-pub back-last : (xs : List ℕ) → 0 < length xs → xs ≡ backed (length xs - 1) xs
-unfolding backed backward
-back-last [] h = absurd (omega arith)
-back-last (x ∷ []) h = refl
-back-last (x ∷ y ∷ r) h = rw sub-one (ap (λ (l : List ℕ). x ∷ l) (rw sub-one at (back-last (y ∷ r) (omega arith))))
-
-pub back-short : (xs : List ℕ) → length xs < 2 → xs ≡ take 1 xs ++ backward (drop 1 xs)
-unfolding backward
-back-short [] h = refl
-back-short (x ∷ []) h = refl
-back-short (x ∷ y ∷ r) h = absurd (omega arith)
-
-pub back-done : (xs e : List ℕ) (i : ℕ) → i ≡ 1 → e ≡ backed i xs → e ≡ take 1 xs ++ backward (drop 1 xs)
-unfolding backed
-back-done xs e i h q = rw h at q
 
 -- ---- spans: one turn
 

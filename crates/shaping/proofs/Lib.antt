@@ -4,3 +4,6 @@ pub mod Backward
 pub mod Whole
 pub mod Checking
 pub mod Costing
+pub mod Descent
+pub mod Padded
+pub mod Reaching

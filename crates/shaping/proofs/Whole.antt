@@ -4,7 +4,7 @@ use mathlib.Core.List.{List, [], _∷_, _++_}
 use Prim.Native.Nat.{ℕ, zero, suc, _≤_, _<_, min}
 use native.Mathlib.Omega.{arith}
 use lib.ListN.{length, take, drop, getD, set}
-use Rattle.shaping.specs.Passes.{roof, backward, forward, first, led, d15, merged, lowerSpans, spanned}
+use Rattle.shaping.specs.Passes.{roof, forward, first, led, merged, lowerSpans, spanned}
 
 pub first-alone : (xs : List ℕ) (x : ℕ) → length xs < 2 → x ≡ min (getD xs 0 0) 15 → x ≡ first (getD xs 0 0) (drop 1 xs)
 first-alone [] x h e = e
@@ -27,11 +27,6 @@ pub led-all : (xs z : List ℕ) (h p : ℕ) → z ≡ take 1 (set xs 0 p) ++ for
 unfolding led
 led-all [] z h p d e l = absurd (omega arith)
 led-all (x ∷ r) z h p d e l = d ∙ rw e
-
-pub d15-all : (xs e z : List ℕ) → e ≡ take 1 xs ++ backward (drop 1 xs) → z ≡ led 0 e → z ≡ d15 xs
-unfolding d15
-d15-all [] e z a b = b ∙ rw a (unfold backward led in refl)
-d15-all (x ∷ r) e z a b = b ∙ rw a
 
 pub spanned-one : (xs : List ℕ) (h : ℕ) → h ≡ 0 → xs ≡ spanned h xs
 unfolding spanned

@@ -17,7 +17,7 @@ below-trans (x ∷ a) [] c p q = absurd p
 below-trans (x ∷ a) (y ∷ b) [] p q = q
 below-trans (x ∷ a) (y ∷ b) (z ∷ c) p q = (omega arith, below-trans a b c (p .1) (q .1))
 
-below-both : (a b : List ℕ) → Below a b → Below b a → a ≡ b
+pub below-both : (a b : List ℕ) → Below a b → Below b a → a ≡ b
 below-both [] [] p q = refl
 below-both [] (y ∷ b) p q = absurd p
 below-both (x ∷ a) [] p q = absurd p

@@ -7,7 +7,8 @@ pub mod Greatest
 pub mod Passes
 pub mod Groups
 pub mod Strategies
--- Then the laws, and the starred cases.
+-- Then the code's forms of D15, the laws, and the starred cases.
+pub mod Reach
 pub mod FloatLaws
 pub mod ExtractLaws
 pub mod GreatestLaws

@@ -1,26 +1,50 @@
 // `preprocess_d15`: exponents shaped for D15 in place (document 01, "Exponents"; A/52 7.1.3).
 ghost use mathlib.Core.Path.{_≡_};
-ghost use mathlib.Core.List.{_++_};
-ghost use lib.ListN.{take, drop};
-ghost use Rattle.shaping.specs.Passes.{backward, preprocessRefusal, preprocessed};
-use crate::passes::lead;
-use crate::passes::roof;
+ghost use Prim.Native.Nat.{_<_};
+ghost use lib.ListN.{length};
+ghost use Rattle.shaping.specs.Passes.{d15, preprocessRefusal, preprocessed};
+ghost use Rattle.shaping.specs.Reach.{ascended, descended};
 use crate::passes::smaller;
+use crate::reach::reach_all;
 
-// The backward pass, down to bin 1.
-fn pass_backward(exp: &mut [u8])
-    ensures { λ _. ⌜ now (exp .exit) ≡ take 1 (now (exp .entry)) ++ backward (drop 1 (now (exp .entry))) ⌝ }
+// From the last bin on: each at most 24, and at most 2 above the one behind it.
+fn descend(exp: &mut [u8])
+    ensures { λ _. ⌜ now (exp .exit) ≡ descended (now (exp .entry)) ⌝ }
 {
-    let n = exp.len();
-    if n < 2 {
-        return;
-    }
-    let mut i = n - 1;
-    while 1 < i {
+    let mut i = exp.len();
+    let mut v = 24u8;
+    while 0 < i {
         i -= 1;
-        exp[i] = smaller(exp[i], roof(exp[i + 1]));
+        v = smaller(smaller(exp[i], 24), v + 2);
+        exp[i] = v;
     }
 }
+
+// From bin 0 on: each at most 2 above the one before it, and bin 0 at most 15.
+fn ascend(exp: &mut [u8])
+    requires { ⌜ length (now exp) < 32 ⌝ }
+    ensures { λ _. ⌜ now (exp .exit) ≡ ascended 13 (now (exp .entry)) ⌝ }
+{
+    let mut i = 0;
+    let mut v = 13u8;
+    while i < exp.len() {
+        v = smaller(exp[i], v + 2);
+        exp[i] = v;
+        i += 1;
+    }
+}
+
+// Bin after bin, which is quickest where there are few.
+fn pass_by_pass(exp: &mut [u8])
+    requires { ⌜ length (now exp) < 32 ⌝ }
+    ensures { λ _. ⌜ now (exp .exit) ≡ d15 (now (exp .entry)) ⌝ }
+{
+    descend(exp);
+    ascend(exp);
+}
+
+// So many bins are few: two vectors.
+const FEW: usize = 32;
 
 pub fn preprocess_d15(exp: &mut [u8]) -> u32
     ensures { λ r. ⌜ r ≡ preprocessRefusal (now (exp .entry)) ⌝ }
@@ -29,7 +53,10 @@ pub fn preprocess_d15(exp: &mut [u8]) -> u32
     if 256 < exp.len() {
         return bits::refusal::WRONG_LENGTH;
     }
-    pass_backward(exp);
-    lead(exp, 0);
+    if exp.len() < FEW {
+        pass_by_pass(exp);
+        return bits::refusal::ACCEPTED;
+    }
+    reach_all(exp);
     bits::refusal::ACCEPTED
 }

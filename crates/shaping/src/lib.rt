@@ -5,6 +5,7 @@ pub mod finite;
 pub mod groups;
 pub mod passes;
 pub mod pattern;
+pub mod reach;
 pub mod select;
 pub mod shaped;
 pub mod spans;
