@@ -52,6 +52,18 @@ pub windows-read : (table : List ℕ) (n base : ℕ) (exp ys : List ℕ) → tab
     → ys ≡ tab n (λ i. getD window (base - 4 * getD exp i 0) 0)
 windows-read table n base exp ys t e = e ∙ ap (λ (l : List ℕ). tab n (λ i. getD l (base - 4 * getD exp i 0) 0)) t
 
+pub length-baptab : length baptab ≡ 64
+unfolding baptab
+length-baptab = refl
+
+-- a read of a table that is BAPTAB, at the held address, is one of the window
+pub held-read : (table : List ℕ) (base e v : ℕ) → table ≡ baptab → base ≤ 271 → v ≡ getD table (min (base - (111 + 4 * e)) 63) 0
+    → v ≡ getD window (base - 4 * e) 0
+unfolding entry
+held-read table base e v t h q =
+    let p : base - (111 + 4 * e) ≡ base - 4 * e - 111 = omega arith in
+    (rw (t, p) at q) ∙ sym (window-at (base - 4 * e) (omega arith))
+
 base-least : (p : Parameters) (x b h a : ℕ) → 111 ≤ heldBase p x b h a
 unfolding heldBase baseOf
 base-least p x b h a = omega arith

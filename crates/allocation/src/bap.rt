@@ -1,14 +1,16 @@
 // The bit allocation pointers of the bins (A/52 7.2.2.7), from the psds, excitations, deltas and thresholds of the bands.
 ghost use mathlib.Core.Path.{_≡_};
-ghost use Prim.Native.Nat.{ℕ, _-_, _*_, _<_, _≤_};
+ghost use Prim.Native.Nat.{ℕ, _+_, _-_, _*_, _<_, _≤_, min};
 ghost use lib.ListN.{getD, length, take};
 ghost use Rattle.bits.specs.Parts.{tab};
 ghost use Rattle.tables.specs.Bands as bands;
+ghost use Rattle.tables.specs.Quantizer as quantizer;
 ghost use Rattle.excitation.specs.BandOrder.{Bands};
 ghost use Rattle.excitation.specs.Front.{front};
 ghost use Rattle.allocation.specs.Held.{BandArrays, BandBases, Small, bapBy, bapFrom, baseBy, baseOf};
 ghost use Rattle.allocation.specs.Held as definition;
 use crate::initialization::Parameters;
+use crate::window::window;
 use excitation::SINGLES;
 use excitation::band_end;
 use masking::less;
@@ -133,6 +135,36 @@ fn fill_joined(
     }
 }
 
+fn held_address(place: u16) -> u16
+    ensures { λ r. ⌜ r ≡ min place 63 ⌝ }
+{
+    if place < 63 { place } else { 63 }
+}
+
+// The bap of a bin by its band's base, from BAPTAB itself: the address is held to 0 .. 63.
+fn held_pointer(baptab: &[u8; 64], base: u16, exponent: u8) -> u8
+    requires { ⌜ (length (now baptab) ≡ 64) × (exponent ≤ 24) ⌝ }
+    ensures { λ r. ⌜ r ≡ getD (now (baptab .entry)) (min (base - (111 + 4 * exponent)) 63) 0 ⌝ }
+{
+    let address = held_address(less(base, 111 + 4 * (exponent as u16)));
+    baptab[address as usize]
+}
+
+// The few bins of the LFE, for which a window is not worth laying out.
+fn fill_few(exp: &[u8], bins: usize, bases: &[u16; 50], baptab: &[u8; 64], bap: &mut [u8])
+    requires { ⌜ (bins ≤ 28) × (bins ≤ length (now exp)) × (bins ≤ length (now bap)) ⌝ }
+    requires { ⌜ ((bin : ℕ) → bin < bins → getD (now exp) bin 0 ≤ 24) ⌝ }
+    requires { ⌜ BandBases (now bases) ⌝ }
+    requires { ⌜ now baptab ≡ quantizer.baptab ⌝ }
+    ensures { λ _. ⌜ take bins (now (bap .exit)) ≡ tab bins (bapFrom (now (bases .entry)) (now (exp .entry))) ⌝ }
+{
+    let mut bin = 0;
+    while bin < bins {
+        bap[bin] = held_pointer(baptab, bases[bin], exp[bin]);
+        bin += 1;
+    }
+}
+
 // At least so many bands, four at a time where there are so many, so that none is left over from a loop that is made of vectors.
 fn by_fours(bands: usize) -> usize
     requires { ⌜ bands ≤ 50 ⌝ }
@@ -155,7 +187,6 @@ pub fn fill_bins(
     excites: &[u16; 50],
     added: &[u16; 50],
     hth: &[u16; 50],
-    window: &[u8; 272],
     bap: &mut [u8],
 )
     requires { ⌜ (end ≤ 253) × (end ≤ length (now exp)) × (end ≤ length (now bap)) ⌝ }
@@ -163,17 +194,17 @@ pub fn fill_bins(
     requires { ⌜ ((bin : ℕ) → bin < end → getD (now exp) bin 0 ≤ 24) ⌝ }
     requires { ⌜ Small p ⌝ }
     requires { ⌜ BandArrays (now powers) (now excites) (now added) (now hth) ⌝ }
-    requires { ⌜ now window ≡ definition.window ⌝ }
     ensures { λ _. ⌜ take end (now (bap .exit)) ≡ tab end (bapBy p (now (powers .entry)) (now (excites .entry)) (now (added .entry)) (now (hth .entry)) (now (exp .entry))) ⌝ }
 {
     // 111, the place of address 0, behind the last band: every base lies in the window
     let mut bases = [111u16; 50];
     band_bases(by_fours(bands), p, powers, excites, added, hth, &mut bases);
     if end < SINGLES {
-        fill_singles(exp, end, &bases, window, bap);
+        fill_few(exp, end, &bases, &tables::baptab_table(), bap);
         return;
     }
-    fill_singles(exp, SINGLES, &bases, window, bap);
+    let window = window();
+    fill_singles(exp, SINGLES, &bases, &window, bap);
     let bndsz = tables::bndsz_table();
-    fill_joined(exp, end, &bases, &bndsz, window, bap);
+    fill_joined(exp, end, &bases, &bndsz, &window, bap);
 }

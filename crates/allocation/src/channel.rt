@@ -7,7 +7,6 @@ use crate::initialization::initialize;
 use crate::ranges::exponents_fit;
 use crate::ranges::in_range;
 use crate::ranges::right_lengths;
-use crate::window::window;
 use bits::refusal::ACCEPTED;
 use bits::refusal::BAD_EXPONENT;
 use bits::refusal::OUT_OF_RANGE;
@@ -24,7 +23,6 @@ pub fn allocate(exp: &[u8], end: usize, common: Common, channel: ChannelRecord, 
     requires { ⌜ LegalBins (now exp) end (length (now bap)) ⌝ }
     ensures { λ _. ⌜ now (bap .exit) ≡ allocated common channel end (now (exp .entry)) (length (now (bap .entry))) ⌝ }
 {
-    let window = window();
     let hth = tables::hth_row(common.fscod);
     let p = initialize(common, channel);
     let mut powers = [0u16; 51];
@@ -36,18 +34,7 @@ pub fn allocate(exp: &[u8], end: usize, common: Common, channel: ChannelRecord, 
     let ba = channel.ba;
     let mut added = [512u16; 50];
     band_deltas(&offst, &len, &ba, channel.nseg as usize, bands, &mut added);
-    fill_bins(
-        exp,
-        end,
-        bands,
-        p,
-        &powers,
-        &excites,
-        &added,
-        &hth,
-        &window,
-        bap,
-    );
+    fill_bins(exp, end, bands, p, &powers, &excites, &added, &hth, bap);
     slices::fill(&mut bap[end..], 0);
 }
 

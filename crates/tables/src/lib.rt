@@ -29,6 +29,7 @@ pub use quantizer::MANT_LEVEL_7;
 pub use quantizer::MANT_LEVEL_11;
 pub use quantizer::MANT_LEVEL_15;
 pub use quantizer::baptab;
+pub use quantizer::baptab_table;
 pub use quantizer::mant_level;
 pub use quantizer::quantization_bits;
 pub use quantizer::quantization_bits_table;

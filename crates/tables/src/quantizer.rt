@@ -133,6 +133,13 @@ pub fn baptab(address: usize) -> u8
     BAPTAB[address]
 }
 
+// The whole table, for a caller that reads many entries: it is then laid out once.
+pub fn baptab_table() -> [u8; 64]
+    ensures { λ r. ⌜ r ≡ baptab ⌝ }
+{
+    BAPTAB
+}
+
 pub fn quantization_bits(bap: u8) -> u8
     requires { ⌜ bap < 16 ⌝ }
     ensures { λ r. ⌜ r ≡ entry quantizationBits bap ⌝ }
