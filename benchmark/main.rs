@@ -15,6 +15,12 @@ mod writers;
 
 use timing::median;
 
+// So many bytes before the archive's code: where the linker puts a short loop moves its time by a tenth, so the runs that count have several layouts.
+std::arch::global_asm!(concat!(".section .text.layout,\"ax\",@progbits\n.globl layout\nlayout: .skip ", env!("LAYOUT"), "\n.text"));
+extern "C" {
+    static layout: u8;
+}
+
 /// The head of a table: a step, its size, the port, and each form of the Rust with the port's part of its time.
 pub fn head(title: &str, forms: &[&str]) {
     println!("\n{title}\n\n| step | size | port |{}", forms.iter().map(|f| format!(" {f} |")).collect::<String>());
@@ -37,6 +43,8 @@ fn main() {
         std::env::remove_var(name); // document 01: unset
     }
     let rounds = std::env::args().nth(1).map_or(41, |a| a.parse().expect("how many rounds"));
+    std::hint::black_box(std::ptr::addr_of!(layout)); // else the linker leaves the bytes out
+    println!("Layout: {} bytes before the archive's code.", env!("LAYOUT"));
     println!("Medians of {rounds} rounds in which all sides take turns: nanoseconds a call, in brackets the port's time by the Rust's of the same round.");
     println!("Buffers: outputs are made once and not cleared between calls; a step that works in place gets a fresh copy on both sides.");
     steps::run(rounds);
