@@ -46,6 +46,18 @@ pub extern "C" fn ac3_quantise_exponents_to_grpsize(exp: &mut [u8], grpsize: usi
     shaping::quantise_exponents_to_grpsize(exp, grpsize)
 }
 
+// The call, its number of groups in the result slice.
+fn return_groups(end: usize, grpsize: usize, groups: &mut [u32]) -> u32
+    requires { ⌜ length (now groups) ≡ 1 ⌝ }
+    ensures { λ r. ⌜ r ≡ groupsAnswer end grpsize .refusal ⌝ }
+    ensures { λ _. ⌜ now (groups .exit) ≡ groupsAnswer end grpsize .value ∷ [] ⌝ }
+{
+    let answer = shaping::ngrps_for_strategy(end, grpsize);
+    return_count(groups, answer.value);
+    answer.refusal
+}
+
+// Of a call with its span written out, and an end that is known to be in its range, the compiler leaves a product and a shift: hence one for each span.
 #[no_mangle]
 pub extern "C" fn ac3_ngrps_for_strategy(end: usize, grpsize: usize, groups: &mut [u32]) -> u32
     ensures { λ r. ⌜ r ≡ rangeFirst (leb end 256 && isSpan grpsize) (hasLength 1 (now (groups .entry))) (groupsAnswer end grpsize .refusal) ⌝ }
@@ -57,9 +69,18 @@ pub extern "C" fn ac3_ngrps_for_strategy(end: usize, grpsize: usize, groups: &mu
         }
         return OUT_OF_RANGE;
     }
-    let answer = shaping::ngrps_for_strategy(end, grpsize);
-    return_count(groups, answer.value);
-    answer.refusal
+    if end <= 256 {
+        if grpsize == 1 {
+            return return_groups(end, 1, groups);
+        }
+        if grpsize == 2 {
+            return return_groups(end, 2, groups);
+        }
+        if grpsize == 4 {
+            return return_groups(end, 4, groups);
+        }
+    }
+    return_groups(end, grpsize, groups)
 }
 
 #[no_mangle]

@@ -1,6 +1,6 @@
 -- Laws of the groups: what a span is in numbers, and that the groups are a third of the spans coded, rounded up.
 use mathlib.Core.Path.{_≡_}
-use mathlib.Core.Bool.{Bool, true, false, cond, _||_}
+use mathlib.Core.Bool.{true, _||_}
 use mathlib.Core.Logic.{_⊎_, inl, inr, ⊎-elim}
 use Prim.Native.Nat.{ℕ, _+_, _-_, _/_, _%_, _≤_, _<_}
 use native.Mathlib.Omega.{arith}
@@ -27,18 +27,3 @@ span-bounds span h = by-span (λ s. (0 < s) × (s ≤ 4)) (omega arith, omega ar
 -- as it is at the ends that a sheet may hold
 pub groups-are : (end span : ℕ) → (end - 1) % 3 ≡ 0 → isSpan span ≡ true → groups end span ≡ (spanCount end span + 2) / 3
 groups-are end span e s = by-span (λ span. groups end span ≡ (spanCount end span + 2) / 3) (omega arith) (omega arith) (omega arith) span s
-
--- ---- the code counts the groups of D15 first: one division by 3 for all spans
-
--- as many groups as take those of D15 by one, two or four, the last perhaps fewer
-abbrev pub sharing : ℕ → ℕ → ℕ
-sharing d15 span = cond (eqb span 1) d15 (cond (eqb span 2) ((d15 + 1) / 2) ((d15 + 3) / 4))
-
-pub sharing-groups : (end span : ℕ) → sharing ((end - 1) / 3) span ≡ groups end span
-sharing-groups end span = go (eqb span 1) (eqb span 2)
-  where
-    go : (a b : Bool)
-        → cond a ((end - 1) / 3) (cond b (((end - 1) / 3 + 1) / 2) (((end - 1) / 3 + 3) / 4)) ≡ cond a ((end - 1) / 3) (cond b ((end - 1 + 3) / 6) ((end - 1 + 9) / 12))
-    go true b = omega arith
-    go false true = omega arith
-    go false false = omega arith
