@@ -22,7 +22,7 @@ pub fn groups_of(end: usize, grpsize: usize) -> usize
     (product + 768) / 1024
 }
 
-// Number and refusal stay apart up to the end, where the answer is put together.
+// Refusal and value stay apart up to the end: an answer that several returns build would be packed into one word and taken apart again.
 pub fn ngrps_for_strategy(end: usize, grpsize: usize) -> bits::Answer
     ensures { λ r. ⌜ r ≡ groupsAnswer end grpsize ⌝ }
 {
