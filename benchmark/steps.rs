@@ -139,28 +139,18 @@ macro_rules! from_four_places {
 /// The same where a side owes less to its place: the loops stand at four places, the Rust's function in three copies (the archive's stands once,
 /// and AC3_LAYOUT moves it).
 fn groups_from_many_places(rounds: usize) {
-    let (mut a, mut b, mut c) = ([0u32], [0u32], [0u32]);
-    let mut port = |_: usize| {
+    let (mut a, mut b) = ([0u32], [0u32]);
+    let port = |_: usize| {
         from_four_places!(|end, span| keep(entries::ngrps_for_strategy(end, span, black_box(&mut a))));
         from_four_places!(|end, span| keep(entries::ngrps_for_strategy(end, span, black_box(&mut a))));
         from_four_places!(|end, span| keep(entries::ngrps_for_strategy(end, span, black_box(&mut a))));
     };
-    let mut rust = |_: usize| {
+    let rust = |_: usize| {
         from_four_places!(|end, span| bools::groups(end, span, black_box(&mut b)));
         from_four_places!(|end, span| packed::groups(end, span, black_box(&mut b)));
         from_four_places!(|end, span| nothing::groups(end, span, black_box(&mut b)));
     };
-    let [first, second, third]: [fn(usize, usize, &mut [u32]) -> u32; 3] =
-        black_box([bools::groups_answered, packed::groups_answered, nothing::groups_answered]);
-    let mut alike = |_: usize| {
-        from_four_places!(|end, span| keep(first(end, span, black_box(&mut c))));
-        from_four_places!(|end, span| keep(second(end, span, black_box(&mut c))));
-        from_four_places!(|end, span| keep(third(end, span, black_box(&mut c))));
-    };
-    let taken = times(rounds, &mut [&mut port, &mut rust, &mut alike]);
-    line("ngrps_for_strategy, from four places", "12 x 257 calls", &taken[..2]);
-    let alike = [taken[0].clone(), taken[2].clone()];
-    line("ngrps_for_strategy, from four places, the Rust called as the entry is", "12 x 257 calls", &alike);
+    both(rounds, "ngrps_for_strategy, from four places", "12 x 257 calls", port, rust);
 }
 
 fn strategies(rounds: usize, all: &[Input], end: u8) {
