@@ -4,6 +4,7 @@
 #[allow(dead_code)]
 mod entries;
 mod frames;
+mod groups;
 mod inputs;
 mod source;
 #[path = "../differential/spectra.rs"]

@@ -67,16 +67,6 @@ macro_rules! source {
                 quantise_exponents_to_grpsize(exp, span)
             }
             #[inline(never)]
-            pub fn groups(end: usize, span: usize, slot: &mut [u32]) {
-                slot[0] = ngrps_for_strategy(end, span) as u32
-            }
-            /// The same, with a number answered as every entry of the port does.
-            #[inline(never)]
-            pub fn groups_answered(end: usize, span: usize, slot: &mut [u32]) -> u32 {
-                slot[0] = ngrps_for_strategy(end, span) as u32;
-                0
-            }
-            #[inline(never)]
             pub fn pick(exp: &[u8], end: usize, slot: &mut [u8]) {
                 slot[0] = pick_strategy_for_block(exp, end)
             }

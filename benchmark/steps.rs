@@ -1,11 +1,11 @@
 //! Every step called alone, at ends 37, 133 and 253 where it has one; the allocation at the LFE's end too.
 use crate::entries;
+use crate::groups;
 use crate::inputs::{extracted, frames, frames_of, row, size_of, Input, MANY};
-use crate::source::{bools, nothing, packed};
+use crate::source::{bools, packed};
 use crate::timing::{median, times};
 use crate::{head, line};
 use rust_reference::model as m;
-use std::arch::asm;
 use std::hint::black_box;
 
 const ENDS: [u8; 3] = [37, 133, 253];
@@ -19,8 +19,7 @@ pub fn run(rounds: usize) {
     each.iter().for_each(|(end, all)| extraction(rounds, all, *end));
     lfe_shaping(rounds);
     each.iter().for_each(|(end, all)| shaping(rounds, all, *end));
-    groups(rounds);
-    groups_from_many_places(rounds);
+    groups::run(rounds);
     each.iter().for_each(|(end, all)| strategies(rounds, all, *end));
     selection(rounds);
     allocation(rounds, 7, "end 7, sheet of six channels", &frames(6, 37), 5);
@@ -51,7 +50,7 @@ fn both(rounds: usize, step: &str, size: &str, mut port: impl FnMut(usize), mut 
 }
 
 /// Lets nobody leave out what was worked out.
-fn keep<T>(x: T) {
+pub fn keep<T>(x: T) {
     black_box(x);
 }
 
@@ -104,53 +103,6 @@ fn shaping(rounds: usize, all: &[Input], end: u8) {
         };
         both(rounds, &format!("quantise_exponents_to_grpsize, span {span}"), &size, port, rust);
     }
-}
-
-fn groups(rounds: usize) {
-    let (mut a, mut b, mut c) = ([0u32], [0u32], [0u32]);
-    let mut port = |_: usize| (0..=256).for_each(|end| keep(entries::ngrps_for_strategy(end, 1 << (end % 3), black_box(&mut a))));
-    let mut rust = |_: usize| (0..=256).for_each(|end| packed::groups(end, 1 << (end % 3), black_box(&mut b)));
-    // a call into the archive goes through a pointer and answers a number: here the Rust's does too
-    let call: fn(usize, usize, &mut [u32]) -> u32 = black_box(packed::groups_answered);
-    let mut alike = |_: usize| (0..=256).for_each(|end| keep(call(end, 1 << (end % 3), black_box(&mut c))));
-    let taken = times(rounds, &mut [&mut port, &mut rust, &mut alike]);
-    line("ngrps_for_strategy", "257 calls", &taken[..2]);
-    line("ngrps_for_strategy, the Rust called as the entry is", "257 calls", &[taken[0].clone(), taken[2].clone()]);
-}
-
-/// 257 calls, one for each end, from a loop that stands PAD bytes behind one place of a line of the cache.
-#[inline(never)]
-fn from_place<const PAD: usize>(mut call: impl FnMut(usize, usize)) {
-    // passed once for all the calls
-    unsafe { asm!(".p2align 6", "jmp 2f", ".skip {pad}", "2:", pad = const PAD, options(nomem, nostack, preserves_flags)) };
-    (0..=256).for_each(|end| call(end, 1 << (end % 3)));
-}
-
-/// The calls from four places, each a loop of its own.
-macro_rules! from_four_places {
-    ($call:expr) => {
-        from_place::<0>($call);
-        from_place::<16>($call);
-        from_place::<32>($call);
-        from_place::<48>($call);
-    };
-}
-
-/// The same where a side owes less to its place: the loops stand at four places, the Rust's function in three copies (the archive's stands once,
-/// and AC3_LAYOUT moves it).
-fn groups_from_many_places(rounds: usize) {
-    let (mut a, mut b) = ([0u32], [0u32]);
-    let port = |_: usize| {
-        from_four_places!(|end, span| keep(entries::ngrps_for_strategy(end, span, black_box(&mut a))));
-        from_four_places!(|end, span| keep(entries::ngrps_for_strategy(end, span, black_box(&mut a))));
-        from_four_places!(|end, span| keep(entries::ngrps_for_strategy(end, span, black_box(&mut a))));
-    };
-    let rust = |_: usize| {
-        from_four_places!(|end, span| bools::groups(end, span, black_box(&mut b)));
-        from_four_places!(|end, span| packed::groups(end, span, black_box(&mut b)));
-        from_four_places!(|end, span| nothing::groups(end, span, black_box(&mut b)));
-    };
-    both(rounds, "ngrps_for_strategy, from four places", "12 x 257 calls", port, rust);
 }
 
 fn strategies(rounds: usize, all: &[Input], end: u8) {
