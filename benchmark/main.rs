@@ -16,8 +16,7 @@ mod writers;
 
 use timing::median;
 
-// So many bytes before the archive's code: where the linker puts a short loop moves its time by a tenth, so the runs that count have several layouts.
-std::arch::global_asm!(concat!(".section .text.layout,\"ax\",@progbits\n.globl layout\nlayout: .skip ", env!("LAYOUT"), "\n.text"));
+// So many bytes before the archive's code (differential/prepare): where the linker puts a short loop moves its time by a tenth, so the runs that count have several layouts.
 extern "C" {
     static layout: u8;
 }
