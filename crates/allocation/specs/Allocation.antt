@@ -1,4 +1,4 @@
--- The allocation of one channel (000 `compute_bap`, A/52 7.2.2; document 01, "Allocation"), and what the call answers and leaves on every input
+-- The allocation of one channel (the Rust's `compute_bap`, A/52 7.2.2; document 01, "Allocation"), and what the call answers and leaves on every input
 -- (document 01, "When a call is turned back": 2, 10, 4).
 use Prim.Native.Nat.{ℕ, _≤_, _<_}
 use mathlib.Core.Bool.{Bool, true, not, cond, _&&_}

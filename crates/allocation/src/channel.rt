@@ -1,4 +1,4 @@
-// The allocation of one channel (000 `compute_bap`), and the call that turns back what it cannot take.
+// The allocation of one channel (the Rust's `compute_bap`), and the call that turns back what it cannot take.
 ghost use mathlib.Core.Path.{_≡_};
 ghost use lib.ListN.{length};
 ghost use Rattle.allocation.specs.Allocation.{LegalBins, LegalCodes, allocated, answerOf, leftIn};

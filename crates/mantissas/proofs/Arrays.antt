@@ -12,7 +12,7 @@ use Rattle.bits.specs.Tests.{by-bool}
 use Rattle.mantissas.specs.Inner.{Started}
 use Rattle.mantissas.specs.State.{update, at}
 use Rattle.mantissas.specs.Stream.{left}
-use Rattle.mantissas.specs.Ranges.{size, width, groupSizes, row}
+use Rattle.mantissas.specs.Ranges.{size, levels, width, groupSizes, LevelTable, row}
 use Rattle.tables.specs.Entry.{entry}
 use Rattle.tables.specs.Quantizer.{quantizationBits}
 
@@ -63,7 +63,7 @@ pub zero-size : size 0 ≡ 1
 unfolding size groupSizes entry
 zero-size = refl
 
--- the lists that are laid out: group sizes and widths by bap
+-- the lists that are laid out: group sizes, levels and widths by bap
 module _ (l : List ℕ) where
   pub sizes-long : l ≡ groupSizes → length l ≡ 16
   unfolding groupSizes
@@ -76,6 +76,10 @@ module _ (l : List ℕ) where
   -- a group has a code
   pub some-size : (b : ℕ) → l ≡ groupSizes → b < 16 → 1 ≤ getD l b 0
   some-size b e h = omega (arith, size-listed b e, row b h .size-least)
+
+  pub level-listed : (b : ℕ) → LevelTable l → b < 16 → getD l b 0 ≡ levels b
+  unfolding entry
+  level-listed b table h = table .1 b h
 
   pub widths-long : l ≡ quantizationBits → length l ≡ 16
   unfolding quantizationBits

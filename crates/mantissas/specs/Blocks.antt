@@ -1,4 +1,4 @@
--- The mantissa bits of a frame's six blocks, told by a sheet and the buffer of baps (000 `mantissa_bits_total_ends`, coupling off, gives their sum).
+-- The mantissa bits of a frame's six blocks, told by a sheet and the buffer of baps (the Rust's `mantissa_bits_total_ends`, coupling off, gives their sum).
 -- Groups run over the channels of a block and never into the next block (A/52 7.3.5); entries from a channel's end on are ignored.
 use mathlib.Core.Bool.{not, cond}
 use mathlib.Core.List.{List}

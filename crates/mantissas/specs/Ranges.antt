@@ -1,17 +1,22 @@
 -- What a bap says of its codes (A/52 7.3, Table 7.18; document 01, "Mantissas"): how many values a code has, how many codes share a
 -- field, and how many bits the field has. A bap that is not grouped is a group of one, and bap 0 one in a field of no bits, so that
 -- nothing below has a case for them.
-use mathlib.Core.Path.{_≡_}
+use mathlib.Core.Path.{_≡_, refl}
 use mathlib.Core.List.{List, [], _∷_}
 use Prim.Native.Nat.{ℕ, _^_, max, _≤_, _<_}
-use lib.Dec.{T, leb, eqb, leb→le, eqb→eq}
-use Rattle.tables.specs.Computed.{allBelow, at-index}
+use lib.Dec.{leb, eqb, leb→le, eqb→eq}
+use lib.ListN.{length}
+use Rattle.tables.specs.Computed.{at-index}
 use Rattle.tables.specs.Entry.{entry}
 use Rattle.tables.specs.Quantizer.{quantizationBits, levelCount}
 
 -- how many values a code has: the levels of Table 7.18, and for bap 0, which has none there, the one code 0 (document 01)
 unfoldable pub levels : ℕ → ℕ
 levels b = max 1 (levelCount b)
+
+-- a table of them by bap
+abbrev pub LevelTable : List ℕ → Type 0
+LevelTable table = (length table ≡ 16) × ((b : ℕ) → b < 16 → entry table b ≡ levels b)
 
 -- A/52 7.3.5 (and Table 7.18: 5/3, 7/3 and 7/2 bits): three codes of bap 1 share a field, three of bap 2, two of bap 4
 unfoldable pub groupSizes : List ℕ
@@ -50,6 +55,10 @@ row b h =
       whole = leb→le _ _ (at-index 16 (λ (k : ℕ). leb (levels k ^ size k) 65536) tt b h);
     }
 
--- a list of all levels has them
-pub levels-listed : (list : List ℕ) → T (allBelow 16 (λ (k : ℕ). eqb (entry list k) (levels k))) → (b : ℕ) → b < 16 → entry list b ≡ levels b
-levels-listed list t b h = eqb→eq _ _ (at-index 16 (λ (k : ℕ). eqb (entry list k) (levels k)) t b h)
+-- the levels in a row
+unfoldable pub levelList : List ℕ
+levelList = 1 ∷ 3 ∷ 5 ∷ 7 ∷ 11 ∷ 15 ∷ 32 ∷ 64 ∷ 128 ∷ 256 ∷ 512 ∷ 1024 ∷ 2048 ∷ 4096 ∷ 16384 ∷ 65536 ∷ []
+
+pub level-list : LevelTable levelList
+unfolding levelList levels levelCount entry
+level-list = (refl, λ b h. eqb→eq _ _ (at-index 16 (λ (k : ℕ). eqb (entry levelList k) (levels k)) tt b h))

@@ -61,12 +61,12 @@ fields s [] cs = []
 fields s (b ∷ bs) [] = []
 fields s (b ∷ bs) (c ∷ cs) = fieldAt b (s b) (c ∷ ofBap b bs cs) ++ fields (update s b (left b (s b))) bs cs
 
--- 000 `write_mantissa_stream`
+-- the Rust's `write_mantissa_stream`
 unfoldable pub stream : List ℕ → List ℕ → List Bool
 unfolding fieldAt left fields groupCode ofBap update pack padded size levels width groupSizes quantizationBits levelCount entry field odd
 stream bs cs = fields (λ k. 0) bs cs
 
--- ---- counting, with the same state (000 `mantissa_bits_total_ends`; document 01's formula for it is in Formula.antt)
+-- ---- counting, with the same state (the Rust's `mantissa_bits_total_ends`; document 01's formula for it is in Formula.antt)
 
 -- the bits of the field at a bin, if one begins there
 unfoldable pub cost : ℕ → ℕ → ℕ
@@ -81,7 +81,7 @@ countFrom s (b ∷ bs) = cost b (s b) + countFrom (update s b (left b (s b))) bs
 unfoldable pub bitCount : List ℕ → ℕ
 bitCount bs = countFrom (λ k. 0) bs
 
--- ---- reading (A/52 7.3.5; added to 000). The state p has for each bap the codes that were read and not yet handed out.
+-- ---- reading (A/52 7.3.5; the Rust has none). The state p has for each bap the codes that were read and not yet handed out.
 
 -- a field's value is judged whole (document 01, "mantissa value no code has"): 27..31, 125..127, 121..127, 7 and 15 are no group's
 unfoldable pub judged : ℕ → ℕ → List Bool → Outcome ℕ

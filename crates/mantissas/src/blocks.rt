@@ -1,4 +1,4 @@
-// The mantissa bits of a frame's six blocks (000 `mantissa_bits_total_ends`, coupling off).
+// The mantissa bits of a frame's six blocks (the Rust's `mantissa_bits_total_ends`, coupling off).
 use crate::code::check_baps;
 use crate::count::bits_of;
 use crate::count::weigh;

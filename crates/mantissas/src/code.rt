@@ -3,7 +3,7 @@ ghost use mathlib.Core.Path.{_≡_};
 ghost use Prim.Native.Nat.{_^_, _≤_, _<_};
 ghost use lib.ListN.{length};
 ghost use Rattle.mantissas.specs.Calls.{oneLength};
-ghost use Rattle.mantissas.specs.Ranges.{size, levels, width, groupSizes};
+ghost use Rattle.mantissas.specs.Ranges.{size, levels, width, groupSizes, LevelTable};
 ghost use Rattle.mantissas.specs.Stream.{coded, bapsFit};
 
 // A/52 7.3.5: the codes that share a field.
@@ -55,6 +55,13 @@ pub fn levels(b: u8) -> u32
     ensures { λ r. ⌜ (1 ≤ r) × (r ≤ 65536) ⌝ }
 {
     LEVELS[b as usize]
+}
+
+// All of them, laid out once.
+pub fn level_table() -> [u32; 16]
+    ensures { λ r. ⌜ LevelTable r ⌝ }
+{
+    LEVELS
 }
 
 // How many bits the field has.
@@ -113,15 +120,14 @@ pub fn check_codes(bap: &[u8], codes: &[u16]) -> bool
     requires { ⌜ length (now bap) ≡ length (now codes) ⌝ }
     ensures { λ r. ⌜ r ≡ coded (now (bap .entry)) (now (codes .entry)) ⌝ }
 {
+    let levels = level_table();
     let mut i = 0;
     while i < bap.len() {
         let b = bap[i];
         if b >= 16 {
             return false;
         }
-        let m = levels(b);
-        let c = codes[i] as u32;
-        if c >= m {
+        if codes[i] as u32 >= levels[b as usize] {
             return false;
         }
         i += 1;

@@ -1,4 +1,4 @@
-// The reader of a mantissa stream (A/52 7.3.5; added to 000).
+// The reader of a mantissa stream (A/52 7.3.5; the Rust has none).
 use crate::code::check_baps;
 use crate::code::one_length;
 use crate::code::size;

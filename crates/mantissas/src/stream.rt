@@ -1,9 +1,8 @@
-// The writer of a mantissa stream (000 `write_mantissa_stream`).
+// The writer of a mantissa stream (the Rust's `write_mantissa_stream`).
 use crate::code::check_codes;
 use crate::code::group_sizes;
-use crate::code::levels;
+use crate::code::level_table;
 use crate::code::one_length;
-use crate::code::size;
 use crate::count::count_mantissas;
 use bits::Answer;
 use bits::Writer;
@@ -19,22 +18,21 @@ ghost use Rattle.bits.specs.Answer.{outputOf};
 ghost use Rattle.bits.specs.Write.{Ready, Put};
 ghost use Rattle.mantissas.specs.Calls.{writeAnswer};
 ghost use Rattle.mantissas.specs.Inner.{groupAt};
-ghost use Rattle.mantissas.specs.Ranges.{size};
+ghost use Rattle.mantissas.specs.Ranges.{size, levels};
 ghost use Rattle.mantissas.specs.Stream.{Coded, stream};
 
 // Document 01, "Mantissas": missing members are 0.
 const MISSING: u32 = 0;
 
-// The value of the field that begins at bin i: its code and those of the next bins of its bap, 0 for each that is missing.
+// The value of the field that begins at bin i, which n codes of m levels share: its code and those of the next bins of its bap, 0 for each that is missing.
 // The next group of the bap begins behind the last bin looked at, so all scans together pass a bin once for each grouped bap.
-fn group_at(bap: &[u8], codes: &[u16], i: usize) -> u32
+fn group_at(bap: &[u8], codes: &[u16], i: usize, n: u8, m: u32) -> u32
     requires { ⌜ Coded (now bap) (now codes) ⌝ }
-    requires { ⌜ i < length (now bap) ⌝ }
+    requires { ⌜ (i < length (now bap)) × (n ≡ size (getD (now bap) i 0)) × (m ≡ levels (getD (now bap) i 0)) ⌝ }
     ensures { λ r. ⌜ r ≡ groupAt i (now (bap .entry)) (now (codes .entry)) ⌝ }
 {
     let b = bap[i];
-    let m = levels(b);
-    let mut n = size(b);
+    let mut n = n;
     let mut j = i;
     let mut v: u32 = 0;
     while n > 0 {
@@ -52,16 +50,16 @@ fn group_at(bap: &[u8], codes: &[u16], i: usize) -> u32
     v
 }
 
-// The same, n codes sharing the field; a code that has a field of its own is its value.
-fn value_at(bap: &[u8], codes: &[u16], i: usize, n: u8) -> u32
+// The same; a code that has a field of its own is its value.
+fn value_at(bap: &[u8], codes: &[u16], i: usize, n: u8, m: u32) -> u32
     requires { ⌜ Coded (now bap) (now codes) ⌝ }
-    requires { ⌜ (i < length (now bap)) × (n ≡ size (getD (now bap) i 0)) ⌝ }
+    requires { ⌜ (i < length (now bap)) × (n ≡ size (getD (now bap) i 0)) × (m ≡ levels (getD (now bap) i 0)) ⌝ }
     ensures { λ r. ⌜ r ≡ groupAt i (now (bap .entry)) (now (codes .entry)) ⌝ }
 {
     if n == 1 {
         return codes[i] as u32;
     }
-    group_at(bap, codes, i)
+    group_at(bap, codes, i, n, m)
 }
 
 // Appends the stream of the codes. `left` has, for each bap, how many of its bins to come have their code in a field that is written.
@@ -71,6 +69,7 @@ pub fn put_mantissas(out: &mut [u8], w: Writer, bap: &[u8], codes: &[u16]) -> Wr
     ensures { λ r. ⌜ Put (now (out .entry)) w (stream (now (bap .entry)) (now (codes .entry))) (now (out .exit)) r ⌝ }
 {
     let sizes = group_sizes();
+    let levels = level_table();
     let widths = tables::quantization_bits_table();
     let mut w = w;
     let mut left = [0u8; 16];
@@ -84,7 +83,7 @@ pub fn put_mantissas(out: &mut [u8], w: Writer, bap: &[u8], codes: &[u16]) -> Wr
                 i += 1;
             } else {
                 let n = sizes[k];
-                let v = value_at(bap, codes, i, n);
+                let v = value_at(bap, codes, i, n, levels[k]);
                 w = bits::put(out, w, v, widths[k] as u32);
                 left[k] = n - 1;
                 i += 1;

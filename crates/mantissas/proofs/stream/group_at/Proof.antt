@@ -1,50 +1,53 @@
 -- The value so far and the codes from bin j on are the group; each way through the body is a law of Grouping.antt.
 use mathlib.Core.Path.{refl}
 use Prim.Native.Nat.{_+_, _-_, _≤_}
-use lib.ListN.{length}
+use lib.ListN.{length, getD}
 use native.Mathlib.Omega.{arith}
 use borrow.Author.Needs.{needs}
 use Rattle.mantissas.specs.CodedLaws.{coded-baps, coded-length}
 use Rattle.mantissas.specs.Digits.{below-at}
+use Rattle.mantissas.specs.Ranges.{row}
 use Rattle.mantissas.proofs.Grouping.{Grouping, group-start, group-pad, group-take, group-skip, group-end, group-room}
 use Rattle.mantissas.proofs.stream.group_at.Statement.{statement}
 use Rattle.mantissas.proofs.stream.group_at.Tie as tie
 
 abbrev Inv-loop : tie.InvT-loop
-Inv-loop bap codes i b m n₀ j₀ v₀ n j v = Grouping bap codes b i j n v × (j ≤ length bap) × (n ≤ 3)
+Inv-loop bap codes i n₀ m b n₁ j₀ v₀ n j v = Grouping bap codes b i j n v × (j ≤ length bap) × (n ≤ 3)
 
 abbrev μ-loop : tie.MeasureT-loop
-μ-loop bap codes i b m n₀ j₀ v₀ n j v = n + (length bap - j)
+μ-loop bap codes i n₀ m b n₁ j₀ v₀ n j v = n + (length bap - j)
 
 loop-holds : tie.Need-loop-holds Inv-loop μ-loop
-loop-holds c = (group-start refl (c .size .ensures .0), omega arith, omega arith)
+loop-holds c =
+    let size-most = row (getD (c .before .args .bap .now) (c .before .args .i) 0) (search (needs, coded-baps, below-at)) .size-most in
+    (group-start refl (c .before .pre .1 .1), omega arith, omega (arith, size-most))
 
 mul-v : tie.Need-mul-v Inv-loop μ-loop
-mul-v c = omega (arith, group-room (c .before .before .loop .inv .0) (search) refl (search (needs, coded-baps, below-at)) (search needs) (c .before .before .before .before .levels .ensures .0))
+mul-v c = omega (arith, group-room (c .before .before .loop .inv .0) (search) refl (search (needs, coded-baps, below-at)) (search needs) (c .before .before .before .before .pre .1 .2))
 
 add-v : tie.Need-add-v Inv-loop μ-loop
-add-v c = omega (arith, group-room (c .before .before .loop .inv .0) (search) refl (search (needs, coded-baps, below-at)) (search needs) (c .before .before .before .before .levels .ensures .0))
+add-v c = omega (arith, group-room (c .before .before .loop .inv .0) (search) refl (search (needs, coded-baps, below-at)) (search needs) (c .before .before .before .before .pre .1 .2))
 
 loop-again : tie.Need-loop-again Inv-loop μ-loop
-loop-again c = (group-pad (c .before .before .loop .inv .0) (c .if1 .taken) (search needs) (c .before .before .before .before .levels .ensures .0) refl, omega arith, omega arith)
+loop-again c = (group-pad (c .before .before .loop .inv .0) (c .if1 .taken) (search needs) (c .before .before .before .before .pre .1 .2) refl, omega arith, omega arith)
 
 mul-v-2 : tie.Need-mul-v-2 Inv-loop μ-loop
-mul-v-2 c = omega (arith, group-room (c .before .before .before .before .loop .inv .0) (search) refl (search (needs, coded-baps, below-at)) (search needs) (c .before .before .before .before .before .before .levels .ensures .0))
+mul-v-2 c = omega (arith, group-room (c .before .before .before .before .loop .inv .0) (search) refl (search (needs, coded-baps, below-at)) (search needs) (c .before .before .before .before .before .before .pre .1 .2))
 
 shared-slice-read-v : tie.Need-shared-slice-read-v Inv-loop μ-loop
 shared-slice-read-v c = omega (arith, coded-length)
 
 cast-v : tie.Need-cast-v Inv-loop μ-loop
-cast-v c = omega (arith, c .shared-slice-known5 .given (c .before .before .before .before .before .loop .j))
+cast-v c = omega (arith, c .shared-slice-known3 .given (c .before .before .before .before .before .loop .j))
 
 add-v-2 : tie.Need-add-v-2 Inv-loop μ-loop
 add-v-2 c =
-    let room = group-room (c .before .before .before .before .before .loop .inv .0) (search) refl (search (needs, coded-baps, below-at)) (search needs) (c .before .before .before .before .before .before .before .levels .ensures .0) in
-    omega (arith, room, c .shared-slice-known5 .given (c .before .before .before .before .before .loop .j))
+    let room = group-room (c .before .before .before .before .before .loop .inv .0) (search) refl (search (needs, coded-baps, below-at)) (search needs) (c .before .before .before .before .before .before .before .pre .1 .2) in
+    omega (arith, room, c .shared-slice-known3 .given (c .before .before .before .before .before .loop .j))
 
 loop-again-2 : tie.Need-loop-again-2 Inv-loop μ-loop
 loop-again-2 c =
-    (group-take (c .before .before .before .before .before .loop .inv .0) (c .before .before .before .if1 .left) (omega (arith, coded-length)) (c .before .if2 .taken) (search needs) (c .before .before .before .before .before .before .before .levels .ensures .0), omega arith, omega arith)
+    (group-take (c .before .before .before .before .before .loop .inv .0) (c .before .before .before .if1 .left) (omega (arith, coded-length)) (c .before .if2 .taken) (search needs) (c .before .before .before .before .before .before .before .pre .1 .2), omega arith, omega arith)
 
 loop-again-3 : tie.Need-loop-again-3 Inv-loop μ-loop
 loop-again-3 c = (group-skip (c .before .before .before .before .loop .inv .0) (c .before .before .if1 .left) (omega (arith, coded-length)) (c .if2 .left), omega arith, omega arith)
@@ -59,8 +62,6 @@ group-at-spec =
     Inv-loop
     μ-loop
     (λ c. search needs)
-    (λ c κs. search (needs, coded-baps, below-at))
-    (λ c κs. search (needs, coded-baps, below-at))
     loop-holds
     mul-v
     add-v
