@@ -1,6 +1,6 @@
 -- The bits of a frame's body (document 01, "The frame body"; A/52 5.4.3): block by block, the new exponent sets by channel number, then
 -- all mantissas by channel number and bin. The zero bits to the byte are left off.
-use Prim.Native.Nat.{ℕ, zero, suc, _+_}
+use Prim.Native.Nat.{ℕ, _+_}
 use mathlib.Core.Bool.{Bool}
 use mathlib.Core.List.{List, [], _∷_, _++_}
 use lib.ListN.{length, take}
@@ -10,16 +10,18 @@ use Rattle.exponents.specs.Groups.{exponentBits}
 use Rattle.mantissas.specs.Stream.{stream}
 use Rattle.sheet.specs.Common.{commonOf}
 use Rattle.sheet.specs.Record.{recordOf}
-use Rattle.frame.specs.Layout.{channels, endAt, strategyAt, spanFor, rowOf, cleanRow}
+use Rattle.sheet.specs.declared.record.ExponentSet.{ExponentSet}
+use Rattle.sheet.specs.declared.record.ExponentSet.the-variants.{Reuse, New}
+use Rattle.frame.specs.Layout.{channels, endAt, setAt, rowOf, cleanRow}
 
 -- a channel's exponent set in a block (A/52 7.1.3): no bits where the block reuses the earlier one
-unfoldable pub setBits : ℕ → ℕ → List ℕ → List Bool
-setBits zero end part = []
-setBits (suc s) end part = exponentBits (spanFor (suc s)) (take end part)
+unfoldable pub setBits : ExponentSet → ℕ → List ℕ → List Bool
+setBits Reuse end part = []
+setBits (New span) end part = exponentBits span (take end part)
 
 -- the new exponent sets of block b, by channel number
 unfoldable pub setsBits : List ℕ → ℕ → List ℕ → List Bool
-setsBits sheet b row = joined (channels sheet) (λ c. setBits (strategyAt sheet b c) (endAt sheet c) (piece 256 c row))
+setsBits sheet b row = joined (channels sheet) (λ c. setBits (setAt sheet b c) (endAt sheet c) (piece 256 c row))
 
 -- the bap of a channel: the allocation of these exponents by its record and the sheet's common part (A/52 7.2.2);
 -- 256 entries, 0 from end on

@@ -1,14 +1,14 @@
--- A frame under a track sheet (document 01, "The track sheet", "The frame body"): how many channels it has, where each ends, which
--- strategy each block of each has, and the parts of its buffers. What a buffer holds of one block is a row: C parts of 256 entries each.
+-- A frame under a track sheet (document 01, "The track sheet", "The frame body"): how many channels it has, where each ends, whether each
+-- block of each reuses the exponents before it or has a new set, and the parts of its buffers. What a buffer holds of one block is a row: C parts of 256 entries each.
 use Prim.Native.Nat.{ℕ, _-_, _*_, _<_}
 use mathlib.Core.Path.{_≡_}
-use mathlib.Core.Bool.{cond}
 use mathlib.Core.List.{List, _++_}
-use lib.Dec.{eqb}
 use lib.ListN.{take, getD, replicate}
 use Rattle.bits.specs.Parts.{joined, piece}
 use Rattle.sheet.specs.Common.{commonOf, channelsOf}
-use Rattle.sheet.specs.Record.{endsOf, strategiesOf, strategyIn}
+use Rattle.sheet.specs.Record.{endsOf, strategiesOf, setIn}
+use Rattle.sheet.specs.declared.record.ExponentSet.{ExponentSet}
+use Rattle.sheet.specs.declared.record.ExponentSet.the-variants.{Reuse, New}
 
 -- C, the number of channels
 unfoldable pub channels : List ℕ → ℕ
@@ -18,13 +18,14 @@ channels sheet = channelsOf (commonOf sheet)
 unfoldable pub endAt : List ℕ → ℕ → ℕ
 endAt sheet c = getD (endsOf sheet) c 0
 
--- what the record of channel c holds for block b: 0 reuse, 1 D15, 2 D25, 3 D45
-unfoldable pub strategyAt : List ℕ → ℕ → ℕ → ℕ
-strategyAt sheet b c = strategyIn (strategiesOf sheet) c b
+-- what the record of channel c holds for block b: "either reuse or a new set with its span"
+unfoldable pub setAt : List ℕ → ℕ → ℕ → ExponentSet
+setAt sheet b c = setIn (strategiesOf sheet) c b
 
--- the span of a new set: D15 1, D25 2, D45 4; reuse has none
-unfoldable pub spanFor : ℕ → ℕ
-spanFor strategy = cond (eqb strategy 0) 0 (cond (eqb strategy 1) 1 (cond (eqb strategy 2) 2 4))
+-- one thing where a block is reuse, another, by the span, where it has a new set
+unfoldable pub bySet : {A : Type 0} → ExponentSet → A → (ℕ → A) → A
+bySet Reuse reused new = reused
+bySet (New span) reused new = new span
 
 -- the row of block b. Its part c starts at 256 × (C × block + channel) of the buffer: LayoutLaws, `part-starts`
 unfoldable pub rowOf : List ℕ → ℕ → List ℕ → List ℕ

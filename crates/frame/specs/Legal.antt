@@ -1,6 +1,6 @@
 -- The frames that a body can hold under an accepted sheet (document 01, "When a call is turned back", causes 4 and 5): each new set shaped
 -- for its strategy, each reuse block's exponents those of the block before, below end; each code one of its bap's.
-use Prim.Native.Nat.{ℕ, zero, suc, _-_}
+use Prim.Native.Nat.{ℕ, _-_}
 use mathlib.Core.Path.{_≡_}
 use mathlib.Core.Bool.{Bool, true, false, cond}
 use mathlib.Core.List.{List, [], _∷_}
@@ -10,7 +10,9 @@ use Rattle.bits.specs.Parts.{piece}
 use Rattle.mantissas.specs.Stream.{coded}
 use Rattle.shaping.specs.Shaped.{shapedFor}
 use Rattle.sheet.specs.Ranges.{allBelow}
-use Rattle.frame.specs.Layout.{channels, endAt, strategyAt, spanFor, rowOf, cleanRow}
+use Rattle.sheet.specs.declared.record.ExponentSet.{ExponentSet}
+use Rattle.sheet.specs.declared.record.ExponentSet.the-variants.{Reuse, New}
+use Rattle.frame.specs.Layout.{channels, endAt, setAt, rowOf, cleanRow}
 use Rattle.frame.specs.Body.{bapRow}
 use Rattle.frame.specs.Reader.{earlier}
 
@@ -23,13 +25,13 @@ alike (x ∷ xs) (y ∷ ys) = cond (eqb x y) (alike xs ys) false
 
 -- a channel's exponents in a block, below end: those of the block before (`old`) where it is reuse, else shaped for the strategy's span,
 -- which `shapedFor` is given less 1
-unfoldable pub partLegal : ℕ → ℕ → List ℕ → List ℕ → Bool
-partLegal zero end old part = alike (take end old) (take end part)
-partLegal (suc s) end old part = shapedFor (spanFor (suc s) - 1) (take end part)
+unfoldable pub partLegal : ExponentSet → ℕ → List ℕ → List ℕ → Bool
+partLegal Reuse end old part = alike (take end old) (take end part)
+partLegal (New span) end old part = shapedFor (span - 1) (take end part)
 
 -- the exponents of block b, after the row `old` of the block before
 unfoldable pub rowLegal : List ℕ → ℕ → List ℕ → List ℕ → Bool
-rowLegal sheet b old row = allBelow (channels sheet) (λ c. partLegal (strategyAt sheet b c) (endAt sheet c) (piece 256 c old) (piece 256 c row))
+rowLegal sheet b old row = allBelow (channels sheet) (λ c. partLegal (setAt sheet b c) (endAt sheet c) (piece 256 c old) (piece 256 c row))
 
 -- the exponents of all six blocks; else cause 4
 unfoldable pub expsLegal : List ℕ → List ℕ → Bool

@@ -1,9 +1,8 @@
 -- What the tests of a legal frame say: two lists that are alike, a channel's part of a block, each part and the codes of each block.
-use Prim.Native.Nat.{ℕ, zero, suc, _-_, _<_}
+use Prim.Native.Nat.{ℕ, _-_, _<_}
 use mathlib.Core.Path.{_≡_, refl, sym, ap₂}
 use mathlib.Core.Bool.{Bool, true, false, cond, true≢false}
 use mathlib.Core.List.{List, [], _∷_}
-use native.Mathlib.Omega.{arith}
 use lib.Dec.{eqb}
 use lib.ListN.{take}
 use borrow.Author.Tests.{eqb-true, eq-eqb}
@@ -12,7 +11,8 @@ use Rattle.mantissas.specs.Stream.{Coded, coded}
 use Rattle.mantissas.specs.CodedLaws.{coded-true}
 use Rattle.shaping.specs.Shaped.{Shaped, shaped-yes}
 use Rattle.sheet.specs.Tests.{all-below}
-use Rattle.frame.specs.Layout.{channels, endAt, strategyAt, spanFor, rowOf, cleanRow}
+use Rattle.sheet.specs.declared.record.ExponentSet.the-variants.{Reuse, New}
+use Rattle.frame.specs.Layout.{channels, endAt, setAt, rowOf, cleanRow}
 use Rattle.frame.specs.Body.{bapRow}
 use Rattle.frame.specs.Reader.{earlier}
 use Rattle.frame.specs.Legal.{alike, partLegal, rowLegal, expsLegal, codesLegal}
@@ -39,16 +39,13 @@ alike-itself (x ∷ xs) = rw (eq-eqb x x refl) (alike-itself xs)
 
 -- ---- one channel's part of a block
 
-pub part-repeats : (strategy end : ℕ) (old part : List ℕ) → strategy ≡ 0 → partLegal strategy end old part ≡ true → take end old ≡ take end part
+pub part-repeats : (end : ℕ) (old part : List ℕ) → partLegal Reuse end old part ≡ true → take end old ≡ take end part
 unfolding partLegal
-part-repeats zero end old part z h = alike-same (take end old) (take end part) h
-part-repeats (suc s) end old part z h = absurd (omega arith)
+part-repeats end old part h = alike-same (take end old) (take end part) h
 
-pub part-shaped : (strategy end : ℕ) (old part : List ℕ) → (strategy ≡ 0 → ⊥) → partLegal strategy end old part ≡ true
-    → Shaped (spanFor strategy - 1) (take end part)
+pub part-shaped : (span end : ℕ) (old part : List ℕ) → partLegal (New span) end old part ≡ true → Shaped (span - 1) (take end part)
 unfolding partLegal
-part-shaped zero end old part z h = absurd (z refl)
-part-shaped (suc s) end old part z h = shaped-yes (spanFor (suc s) - 1) (take end part) h
+part-shaped span end old part h = shaped-yes (span - 1) (take end part) h
 
 -- ---- a legal frame
 
@@ -60,14 +57,14 @@ legal-row sheet exps legal b hb = all-below 6 (λ b. rowLegal sheet b (earlier s
 
 -- each part of a block
 pub part-of-row : (sheet : List ℕ) (b : ℕ) (old row : List ℕ) → rowLegal sheet b old row ≡ true → (c : ℕ) → c < channels sheet
-    → partLegal (strategyAt sheet b c) (endAt sheet c) (piece 256 c old) (piece 256 c row) ≡ true
+    → partLegal (setAt sheet b c) (endAt sheet c) (piece 256 c old) (piece 256 c row) ≡ true
 unfolding rowLegal
 part-of-row sheet b old row legal c hc =
-    all-below (channels sheet) (λ c. partLegal (strategyAt sheet b c) (endAt sheet c) (piece 256 c old) (piece 256 c row)) legal c hc
+    all-below (channels sheet) (λ c. partLegal (setAt sheet b c) (endAt sheet c) (piece 256 c old) (piece 256 c row)) legal c hc
 
 -- each part of each block
 pub legal-part : (sheet exps : List ℕ) → expsLegal sheet exps ≡ true → (b c : ℕ) → b < 6 → c < channels sheet
-    → partLegal (strategyAt sheet b c) (endAt sheet c) (piece 256 c (earlier sheet exps b)) (piece 256 c (rowOf sheet b exps)) ≡ true
+    → partLegal (setAt sheet b c) (endAt sheet c) (piece 256 c (earlier sheet exps b)) (piece 256 c (rowOf sheet b exps)) ≡ true
 legal-part sheet exps legal b c hb hc = part-of-row sheet b (earlier sheet exps b) (rowOf sheet b exps) (legal-row sheet exps legal b hb) c hc
 
 -- the codes of each block

@@ -18,31 +18,32 @@ use Rattle.mantissas.specs.ReadBack.{reads-stream}
 use Rattle.mantissas.specs.Stream.{Coded, stream}
 use Rattle.sheet.specs.Ranges.{legalEnd}
 use Rattle.sheet.specs.Sheet.{checkOf}
-use Rattle.frame.specs.Layout.{channels, endAt, strategyAt, spanFor, rowOf, clean, cleanRow}
+use Rattle.sheet.specs.declared.record.ExponentSet.{ExponentSet}
+use Rattle.sheet.specs.declared.record.ExponentSet.the-variants.{Reuse, New}
+use Rattle.frame.specs.Layout.{channels, endAt, setAt, rowOf, clean, cleanRow}
 use Rattle.frame.specs.LayoutLaws.{length-row, end-inside, clean-clean, piece-clean, bapRow-clean}
 use Rattle.frame.specs.Body.{setBits, setsBits, bapRow, mantissaBits, blockBits, exponentCounts, mantissaCounts}
 use Rattle.frame.specs.Legal.{partLegal, rowLegal}
 use Rattle.frame.specs.LegalLaws.{part-repeats, part-shaped, part-of-row}
 use Rattle.frame.specs.Reader.{Frame, readPart, readSets, readBlock, grown, nothing, earlier, frameOf}
-use Rattle.frame.specs.Under.{channel-known, first-new, span-known}
+use Rattle.frame.specs.Under.{KnownSet, channel-known, known-set}
 
 -- a channel's part: a new set is read back as it was written; a reuse block repeats the earlier part
-part-reads : (s end : ℕ) (old part : List ℕ) → legalEnd end ≡ true → end ≤ length part → (s ≡ 0 → clean end old ≡ old) → partLegal s end old part ≡ true
-    → Reads (readPart s end old) (setBits s end part) (clean end part)
+part-reads : (set : ExponentSet) (end : ℕ) (old part : List ℕ) → KnownSet set → legalEnd end ≡ true → end ≤ length part → (set ≡ Reuse → clean end old ≡ old)
+    → partLegal set end old part ≡ true → Reads (readPart set end old) (setBits set end part) (clean end part)
 unfolding readPart setBits clean
-part-reads zero end old part e l kept h =
-    record { back = λ rest. ap (λ (p : List ℕ). ok p rest) (sym (kept refl) ∙ ap (λ (p : List ℕ). p ++ replicate (256 - end) 0) (part-repeats 0 end old part refl h)) }
-part-reads (suc s) end old part e l kept h =
+part-reads Reuse end old part k e l kept h =
+    record { back = λ rest. ap (λ (p : List ℕ). ok p rest) (sym (kept refl) ∙ ap (λ (p : List ℕ). p ++ replicate (256 - end) 0) (part-repeats end old part h)) }
+part-reads (New span) end old part k e l kept h =
     let long = length-take-le end part l in
-    let new : suc s ≡ 0 → ⊥ = λ z. omega arith in
-    let r : Reads (readExponents end (spanFor (suc s))) (exponentBits (spanFor (suc s)) (take end part)) (take end part) =
-    rw long at (reads-exponents (spanFor (suc s)) (take end part) (rw long e) (span-known (suc s) new) (part-shaped (suc s) end old part new h)) in
+    let r : Reads (readExponents end span) (exponentBits span (take end part)) (take end part) =
+    rw long at (reads-exponents span (take end part) (rw long e) (k .known span refl) (part-shaped span end old part h)) in
     reads-map (λ (exps : List ℕ). exps ++ replicate (256 - end) 0) r
 
 module _ (sheet : List ℕ) (accepted : checkOf sheet ≡ refusal.accepted) where
   -- the row before holds 0 from each end on, wherever block b reuses it
   abbrev pub KeptRow : ℕ → List ℕ → Type 0
-  KeptRow b old = (c : ℕ) → c < channels sheet → strategyAt sheet b c ≡ 0 → clean (endAt sheet c) (piece 256 c old) ≡ piece 256 c old
+  KeptRow b old = (c : ℕ) → c < channels sheet → setAt sheet b c ≡ Reuse → clean (endAt sheet c) (piece 256 c old) ≡ piece 256 c old
 
   -- the sets of block b
   sets-read : (b : ℕ) (old row : List ℕ) → length row ≡ 256 * channels sheet → KeptRow b old → rowLegal sheet b old row ≡ true
@@ -50,7 +51,7 @@ module _ (sheet : List ℕ) (accepted : checkOf sheet ≡ refusal.accepted) wher
   unfolding readSets setsBits cleanRow
   sets-read b old row long kept h =
       reads-gather _ _ (channels sheet)
-      (λ c l. part-reads (strategyAt sheet b c) (endAt sheet c) (piece 256 c old) (piece 256 c row)
+      (λ c l. part-reads (setAt sheet b c) (endAt sheet c) (piece 256 c old) (piece 256 c row) (known-set sheet b c)
       (channel-known sheet accepted c l .legal) (end-inside sheet accepted row long c l) (kept c l) (part-of-row sheet b old row h c l))
 
   -- block b: its sets, then, by the allocation that they give, its mantissas
@@ -72,7 +73,7 @@ module _ (sheet : List ℕ) (accepted : checkOf sheet ≡ refusal.accepted) wher
   -- the row before is such a row in every block of a frame
   pub earlier-kept : (exps : List ℕ) → length exps ≡ 256 * channels sheet * 6 → (b : ℕ) → b < 6 → KeptRow b (earlier sheet exps b)
   unfolding earlier
-  earlier-kept exps long zero l c h z = absurd (first-new sheet accepted c h z)
+  earlier-kept exps long zero l c h z = absurd (channel-known sheet accepted c h .first z)
   earlier-kept exps long (suc b) l c h z =
       let row = rowOf sheet b exps in
       let n = length-row sheet exps b long (omega arith) in

@@ -8,17 +8,19 @@ use Rattle.bits.specs.Parts.{joined, piece}
 use Rattle.bits.specs.Reading.{Outcome, ok, then, steps, gather}
 use Rattle.exponents.specs.Reading.{readExponents}
 use Rattle.mantissas.specs.Stream.{readStream}
-use Rattle.frame.specs.Layout.{channels, endAt, strategyAt, spanFor, rowOf, cleanRow}
+use Rattle.sheet.specs.declared.record.ExponentSet.{ExponentSet}
+use Rattle.sheet.specs.declared.record.ExponentSet.the-variants.{Reuse, New}
+use Rattle.frame.specs.Layout.{channels, endAt, setAt, rowOf, cleanRow}
 use Rattle.frame.specs.Body.{bapRow, exponentCounts, mantissaCounts}
 
 -- a channel's exponents in a block: a new set is read, reuse repeats the part of the block before (`old`)
-unfoldable pub readPart : ℕ → ℕ → List ℕ → List Bool → Outcome (List ℕ)
-readPart zero end old bits = ok old bits
-readPart (suc s) end old bits = then (readExponents end (spanFor (suc s)) bits) (λ exps rest. ok (exps ++ replicate (256 - end) 0) rest)
+unfoldable pub readPart : ExponentSet → ℕ → List ℕ → List Bool → Outcome (List ℕ)
+readPart Reuse end old bits = ok old bits
+readPart (New span) end old bits = then (readExponents end span bits) (λ exps rest. ok (exps ++ replicate (256 - end) 0) rest)
 
 -- the exponents of block b, after the row `old` of the block before
 unfoldable pub readSets : List ℕ → ℕ → List ℕ → List Bool → Outcome (List ℕ)
-readSets sheet b old bits = gather (λ c. readPart (strategyAt sheet b c) (endAt sheet c) (piece 256 c old)) (channels sheet) bits
+readSets sheet b old bits = gather (λ c. readPart (setAt sheet b c) (endAt sheet c) (piece 256 c old)) (channels sheet) bits
 
 -- what the blocks so far gave: three buffers and the counts; `row` is the row of exponents that a reuse block repeats
 pub record Frame : Type 0 where

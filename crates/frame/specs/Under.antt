@@ -1,21 +1,23 @@
 -- What the frame's functions hold by value of an accepted sheet (document 01, "The track sheet"), and what is known of each of its channels.
-use Prim.Native.Nat.{ℕ, zero, suc, _≤_, _<_}
-use mathlib.Core.Path.{_≡_, refl, ap}
+use Prim.Native.Nat.{ℕ, _≤_, _<_}
+use mathlib.Core.Path.{_≡_, refl, ap, _∙_}
 use mathlib.Core.Bool.{true}
 use mathlib.Core.List.{List}
 use native.Mathlib.Omega.{arith}
 use lib.ListN.{getD}
-use borrow.Author.Tests.{ne-eqb}
 use Rattle.bits.specs.Refusal as refusal
 use Rattle.allocation.specs.Allocation.{LegalCodes}
 use Rattle.allocation.specs.AllocationLaws.{codes-legal}
 use Rattle.shaping.specs.Passes.{isSpan}
 use Rattle.sheet.specs.Common.{commonOf, channelsOf}
-use Rattle.sheet.specs.Laws.{legal-sheet}
+use Rattle.sheet.specs.Laws.{legal-sheet, reuse-not-new, same-span, every-set, first-set}
 use Rattle.sheet.specs.Ranges.{legalEnd}
-use Rattle.sheet.specs.Record.{endsOf, recordOf, strategiesOf, strategyIn}
+use Rattle.sheet.specs.Record.{endsOf, recordOf, strategiesOf, setIn}
 use Rattle.sheet.specs.Sheet.{checkOf}
-use Rattle.frame.specs.Layout.{channels, endAt, strategyAt, spanFor}
+use Rattle.sheet.specs.declared.record.BlockSet.{BlockSet}
+use Rattle.sheet.specs.declared.record.ExponentSet.{ExponentSet}
+use Rattle.sheet.specs.declared.record.ExponentSet.the-variants.{Reuse, New}
+use Rattle.frame.specs.Layout.{channels, endAt, setAt, bySet}
 use Rattle.frame.specs.declared.track.Track.{Track}
 
 -- the number of channels and the end of each
@@ -23,7 +25,7 @@ abbrev pub trackOf : List ℕ → Track
 trackOf sheet = record { channels = channelsOf (commonOf sheet); ends = endsOf sheet }
 
 -- the sheet is accepted, and these are its values
-pub record Under (sheet : List ℕ) (track : Track) (strategies : List (List ℕ)) : Type 0 where
+pub record Under (sheet : List ℕ) (track : Track) (strategies : List (List BlockSet)) : Type 0 where
   pub accepted : checkOf sheet ≡ refusal.accepted
   pub by-value : track ≡ trackOf sheet
   pub table : strategies ≡ strategiesOf sheet
@@ -33,24 +35,21 @@ pub record Channel (sheet : List ℕ) (c : ℕ) : Type 0 where
   pub legal : legalEnd (endAt sheet c) ≡ true
   pub end-least : 7 ≤ endAt sheet c
   pub end-most : endAt sheet c ≤ 253
-  pub strategy : (b : ℕ) → strategyAt sheet b c ≤ 3
-  pub first : 1 ≤ strategyAt sheet 0 c
+  pub first : setAt sheet 0 c ≡ Reuse → ⊥
   pub codes : LegalCodes (commonOf sheet) (recordOf sheet c)
 
 -- ---- what an accepted sheet says
 
 pub channel-known : (sheet : List ℕ) → checkOf sheet ≡ refusal.accepted → (c : ℕ) → c < channels sheet → Channel sheet c
-unfolding channels endAt strategyAt
+unfolding channels endAt setAt
 channel-known sheet h c l =
     let legal = legal-sheet sheet h in
     let e = legal .end-of c l in
-    let s = legal .strategies-of c l in
     record {
       legal = e .legal;
       end-least = e .bounds .least;
       end-most = e .bounds .most;
-      strategy = s .most;
-      first = s .first;
+      first = first-set sheet h c l;
       codes = codes-legal sheet legal c l;
     }
 
@@ -59,12 +58,41 @@ pub channels-some : (sheet : List ℕ) → checkOf sheet ≡ refusal.accepted �
 unfolding channels
 channels-some sheet h = let legal = legal-sheet sheet h in (legal .common .channels-least, legal .common .channels-most)
 
--- block 0 is never reuse
-pub first-new : (sheet : List ℕ) → checkOf sheet ≡ refusal.accepted → (c : ℕ) → c < channels sheet → strategyAt sheet 0 c ≡ 0 → ⊥
-first-new sheet accepted c h z = omega (arith, channel-known sheet accepted c h .first)
+-- ---- reuse, or a new set with its span
+
+-- the span of a new set is one of the three
+pub record KnownSet (set : ExponentSet) : Type 0 where
+  pub known : (span : ℕ) → set ≡ New span → isSpan span ≡ true
+
+pub known-set : (sheet : List ℕ) (b c : ℕ) → KnownSet (setAt sheet b c)
+unfolding setAt
+known-set sheet b c = every-set KnownSet none (one 1 refl) (one 2 refl) (one 4 refl) sheet c b
+  where
+    one : (n : ℕ) → isSpan n ≡ true → KnownSet (New n)
+    one n h = record { known = λ span e. rw (same-span e) at h }
+
+    none : KnownSet Reuse
+    none = record { known = λ span e. absurd (reuse-not-new e) }
+
+-- either of the two
+pub one-of-two : {X : Type 0} (set : ExponentSet) → (set ≡ Reuse → X) → ((span : ℕ) → set ≡ New span → X) → X
+one-of-two Reuse reuse new = reuse refl
+one-of-two (New span) reuse new = new span refl
+
+-- what is said by cases of a set is what the case says
+module _ {A : Type 0} {set : ExponentSet} (reused : A) (new : ℕ → A) where
+  pub by-reuse : set ≡ Reuse → bySet set reused new ≡ reused
+  unfolding bySet
+  by-reuse e = rw e
+
+  pub by-new : (span : ℕ) → set ≡ New span → bySet set reused new ≡ new span
+  unfolding bySet
+  by-new span e = rw e
+
+-- ---- what is held by value
 
 -- what is held by value is what the definitions say
-module _ {sheet : List ℕ} {track : Track} {strategies : List (List ℕ)} (u : Under sheet track strategies) where
+module _ {sheet : List ℕ} {track : Track} {strategies : List (List BlockSet)} (u : Under sheet track strategies) where
   pub held-channels : track .channels ≡ channels sheet
   unfolding channels
   held-channels = ap (λ (t : Track). t .channels) (u .by-value)
@@ -73,9 +101,9 @@ module _ {sheet : List ℕ} {track : Track} {strategies : List (List ℕ)} (u : 
   unfolding endAt
   held-end c = ap (λ (t : Track). getD (t .ends) c 0) (u .by-value)
 
-  pub held-strategy : (b c : ℕ) → strategyIn strategies c b ≡ strategyAt sheet b c
-  unfolding strategyAt
-  held-strategy b c = ap (λ (t : List (List ℕ)). strategyIn t c b) (u .table)
+  pub held-set : (b c : ℕ) → setIn strategies c b ≡ setAt sheet b c
+  unfolding setAt
+  held-set b c = ap (λ (t : List (List BlockSet)). setIn t c b) (u .table)
 
   -- and what is known of a channel whose number is below the count that is held
   pub held-below : (c : ℕ) → c < track .channels → c < channels sheet
@@ -87,12 +115,5 @@ module _ {sheet : List ℕ} {track : Track} {strategies : List (List ℕ)} (u : 
   pub held-legal : (c : ℕ) → c < track .channels → legalEnd (getD (track .ends) c 0) ≡ true
   held-legal c h = rw (held-end c) (held-channel c h .legal)
 
--- the span of a new set is one of the three
-pub span-known : (strategy : ℕ) → (strategy ≡ 0 → ⊥) → isSpan (spanFor strategy) ≡ true
-unfolding spanFor
-span-known zero h = absurd (h refl)
-span-known (suc zero) h = refl
-span-known (suc (suc zero)) h = refl
-span-known (suc (suc (suc s))) h =
-    let n = suc (suc (suc s)) in
-    rw (ne-eqb n 0 h, ne-eqb n 1 (λ e. omega arith), ne-eqb n 2 (λ e. omega arith))
+  pub held-known : (b c : ℕ) {set : ExponentSet} → set ≡ setIn strategies c b → KnownSet set
+  held-known b c e = rw (e, held-set b c) (known-set sheet b c)

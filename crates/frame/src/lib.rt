@@ -5,6 +5,5 @@ pub mod track;
 pub use answer::FrameAnswer;
 pub use answer::refused;
 pub use track::Track;
-pub use track::span_for;
-pub use track::strategy_at;
+pub use track::set_at;
 pub use track::track_of;

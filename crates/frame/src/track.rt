@@ -1,9 +1,10 @@
 // What the frame's functions take from a sheet by value; the records are read off the sheet where they are needed.
 ghost use mathlib.Core.Path.{_≡_};
 ghost use Prim.Native.Nat.{_<_};
-ghost use Rattle.sheet.specs.Record.{strategyIn};
-ghost use Rattle.frame.specs.Layout.{spanFor};
+ghost use Rattle.sheet.specs.Record.{setIn};
 ghost use Rattle.frame.specs.Under.{trackOf};
+use sheet::BlockSet;
+use sheet::ExponentSet;
 
 // The number of channels and the end of each.
 pub struct Track {
@@ -23,22 +24,12 @@ pub fn track_of(sheet: &[u8]) -> Track
     }
 }
 
-// The strategy of a channel's block in the table of six channels by six blocks.
-pub fn strategy_at(strategies: [[u8; 6]; 6], b: usize, c: usize) -> u8
+// What the table of six channels by six blocks holds for a channel's block: reuse, or a new set with its span.
+pub fn set_at(strategies: [[BlockSet; 6]; 6], b: usize, c: usize) -> ExponentSet
     requires { ⌜ (b < 6) × (c < 6) ⌝ }
-    ensures { λ r. ⌜ r ≡ strategyIn strategies c b ⌝ }
+    ensures { λ r. ⌜ r ≡ setIn strategies c b ⌝ }
 {
-    strategies[c][b]
-}
-
-// The span of a strategy: 1 D15, 2 D25, 3 D45; reuse has none.
-pub fn span_for(strategy: u8) -> usize
-    ensures { λ r. ⌜ r ≡ spanFor strategy ⌝ }
-{
-    match strategy {
-        0 => 0,
-        1 => 1,
-        2 => 2,
-        _ => 4,
-    }
+    let row = strategies[c];
+    let block = row[b];
+    block.set
 }

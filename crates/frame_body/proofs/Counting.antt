@@ -1,5 +1,5 @@
 -- The turns of the loops that count.
-use Prim.Native.Nat.{ℕ, zero, suc, _+_, _*_, _≤_, _<_}
+use Prim.Native.Nat.{ℕ, _+_, _*_, _≤_, _<_}
 use mathlib.Core.Path.{_≡_, refl, sym, ap, ap₂, _∙_}
 use mathlib.Core.Bool.{true}
 use mathlib.Core.List.{List, [], _∷_, _++_}
@@ -13,22 +13,22 @@ use Rattle.exponents.specs.Groups.{groupCount}
 use Rattle.exponents.specs.GroupsLaws.{count-thirds}
 use Rattle.mantissas.specs.Count.{sum}
 use Rattle.sheet.specs.Ranges.{legalEnd}
-use Rattle.frame.specs.Layout.{spanFor}
+use Rattle.sheet.specs.declared.record.ExponentSet.{ExponentSet}
+use Rattle.sheet.specs.declared.record.ExponentSet.the-variants.{Reuse, New}
 use Rattle.frame.specs.Body.{total}
 use Rattle.frame.specs.BodyLaws.{total-append}
-use Rattle.frame.specs.Under.{span-known}
+use Rattle.frame.specs.Under.{KnownSet}
 use Rattle.frame_body.specs.Counts.{setCount}
 
 -- ---- a set
 
-pub set-none : (s end : ℕ) → s ≡ 0 → 0 ≡ setCount s end
+pub set-none : (set : ExponentSet) (end : ℕ) → set ≡ Reuse → 0 ≡ setCount set end
 unfolding setCount
-set-none s end e = rw e
+set-none set end e = rw e
 
-pub set-groups : (s end : ℕ) → (s ≡ 0 → ⊥) → legalEnd end ≡ true → 4 + 7 * groupCount end (spanFor s) ≡ setCount s end
+pub set-groups : (set : ExponentSet) (span end : ℕ) → set ≡ New span → KnownSet set → legalEnd end ≡ true → 4 + 7 * groupCount end span ≡ setCount set end
 unfolding setCount
-set-groups zero end h e = absurd (h refl)
-set-groups (suc s) end h e = ap (λ (g : ℕ). 4 + 7 * g) (count-thirds end (spanFor (suc s)) e (span-known (suc s) h))
+set-groups set span end new k e = rw new (ap (λ (g : ℕ). 4 + 7 * g) (count-thirds end span e (k .known span new)))
 
 -- ---- a sum
 

@@ -1,7 +1,7 @@
 -- A body is short, so the sum of its twelve counts fits in 32 bits: a set has at most 4 + 7 × 84 = 592 bits and a bin at most 16,
 -- a block of six channels 6 × (592 + 256 × 16) = 28128, and six blocks 168768.
-use Prim.Native.Nat.{ℕ, zero, suc, _*_, _≤_}
-use mathlib.Core.Path.{_≡_}
+use Prim.Native.Nat.{ℕ, _*_, _≤_}
+use mathlib.Core.Path.{_≡_, refl}
 use mathlib.Core.Bool.{true}
 use mathlib.Core.List.{List}
 use native.Mathlib.Omega.{arith}
@@ -15,24 +15,23 @@ use Rattle.mantissas.specs.Count.{length-stream, bits-most}
 use Rattle.mantissas.specs.Stream.{Coded}
 use Rattle.sheet.specs.Ranges.{legalEnd}
 use Rattle.sheet.specs.Sheet.{checkOf}
-use Rattle.frame.specs.Layout.{channels, endAt, strategyAt, spanFor, rowOf, cleanRow}
+use Rattle.sheet.specs.declared.record.ExponentSet.{ExponentSet}
+use Rattle.sheet.specs.declared.record.ExponentSet.the-variants.{Reuse, New}
+use Rattle.frame.specs.Layout.{channels, endAt, setAt, rowOf, cleanRow}
 use Rattle.frame.specs.LayoutLaws.{length-bapRow, length-row, end-inside}
 use Rattle.frame.specs.Body.{setsBits, bapRow, mantissaBits, blockBits, bodyBits, countsOf, total}
 use Rattle.frame.specs.Legal.{codesLegal}
 use Rattle.frame.specs.LegalLaws.{legal-codes}
 use Rattle.frame.specs.Theorems.{body-count}
-use Rattle.frame.specs.Under.{channel-known, channels-some, span-known}
+use Rattle.frame.specs.Under.{KnownSet, channel-known, channels-some, known-set}
 use Rattle.frame_body.specs.Counts.{setCount}
 use Rattle.frame_body.specs.Formula.{set-count}
 
 -- a set has at most 84 groups
-set-most : (s end : ℕ) → legalEnd end ≡ true → setCount s end ≤ 592
+set-most : (set : ExponentSet) (end : ℕ) → KnownSet set → legalEnd end ≡ true → setCount set end ≤ 592
 unfolding setCount
-set-most zero end e = omega arith
-set-most (suc s) end e =
-    let span = spanFor (suc s) in
-    let known = span-known (suc s) (λ z. omega arith) in
-    omega (arith, count-thirds end span e known, count-reaches end span e known)
+set-most Reuse end k e = omega arith
+set-most (New span) end k e = omega (arith, count-thirds end span e (k .known span refl), count-reaches end span e (k .known span refl))
 
 module _ (sheet : List ℕ) (accepted : checkOf sheet ≡ refusal.accepted) where
   sets-most : (b : ℕ) (r : List ℕ) → length r ≡ 256 * channels sheet → length (setsBits sheet b r) ≤ 592 * channels sheet
@@ -41,7 +40,8 @@ module _ (sheet : List ℕ) (accepted : checkOf sheet ≡ refusal.accepted) wher
       joined-most 592 _ (channels sheet)
       (λ c l.
       let legal = channel-known sheet accepted c l .legal in
-      omega (arith, set-count (strategyAt sheet b c) (endAt sheet c) (piece 256 c r) legal (end-inside sheet accepted r long c l), set-most (strategyAt sheet b c) (endAt sheet c) legal))
+      let known = known-set sheet b c in
+      omega (arith, set-count (setAt sheet b c) (endAt sheet c) (piece 256 c r) known legal (end-inside sheet accepted r long c l), set-most (setAt sheet b c) (endAt sheet c) known legal))
 
   mantissas-most : (r codes : List ℕ) → Coded (bapRow sheet r) (cleanRow sheet codes) → length (mantissaBits sheet r codes) ≤ 16 * (256 * channels sheet)
   unfolding mantissaBits

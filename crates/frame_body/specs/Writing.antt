@@ -1,4 +1,4 @@
--- What the writer of a body asks of a channel's part and of a block: a new set is shaped for its strategy (document 01, "Exponents"). And the
+-- What the writer of a body asks of a channel's part and of a block: a new set is shaped for its span (document 01, "Exponents"). And the
 -- bins that it writes: those below each end.
 use Prim.Native.Nat.{ℕ, _-_, _<_}
 use mathlib.Core.Path.{_≡_}
@@ -6,15 +6,17 @@ use mathlib.Core.List.{List}
 use lib.ListN.{take, getD}
 use Rattle.bits.specs.Parts.{joined, piece}
 use Rattle.shaping.specs.Shaped.{Shaped}
-use Rattle.frame.specs.Layout.{channels, endAt, strategyAt, spanFor}
+use Rattle.frame.specs.Layout.{channels, endAt, setAt}
+use Rattle.sheet.specs.declared.record.ExponentSet.{ExponentSet}
+use Rattle.sheet.specs.declared.record.ExponentSet.the-variants.{New}
 
--- a new set is shaped for its strategy below end
-pub record NewSet (strategy end : ℕ) (part : List ℕ) : Type 0 where
-  pub shaped : (strategy ≡ 0 → ⊥) → Shaped (spanFor strategy - 1) (take end part)
+-- a new set is shaped for its span below end
+pub record NewSet (set : ExponentSet) (end : ℕ) (part : List ℕ) : Type 0 where
+  pub shaped : (span : ℕ) → set ≡ New span → Shaped (span - 1) (take end part)
 
 -- the sets of block b
 pub record NewSets (sheet : List ℕ) (b : ℕ) (row : List ℕ) : Type 0 where
-  pub part : (c : ℕ) → c < channels sheet → NewSet (strategyAt sheet b c) (endAt sheet c) (piece 256 c row)
+  pub part : (c : ℕ) → c < channels sheet → NewSet (setAt sheet b c) (endAt sheet c) (piece 256 c row)
 
 -- the entries of a row below each end, one channel's behind the other's (document 01, "The track sheet": "Entries from end on are ignored")
 unfoldable pub belowEnds : ℕ → List ℕ → List ℕ → List ℕ

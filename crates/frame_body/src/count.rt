@@ -1,5 +1,8 @@
 // The twelve counts of a body (document 01, "The frame body"), before any bit is written.
 use frame::Track;
+use sheet::BlockSet;
+use sheet::ExponentSet;
+use sheet::read::wide;
 ghost use mathlib.Core.Path.{_≡_};
 ghost use mathlib.Core.Bool.{true};
 ghost use Prim.Native.Nat.{_*_, _^_, _≤_, _<_};
@@ -7,33 +10,35 @@ ghost use lib.ListN.{length};
 ghost use Rattle.sheet.specs.Ranges.{legalEnd};
 ghost use Rattle.frame.specs.Body.{countsOf, total};
 ghost use Rattle.frame.specs.Legal.{codesLegal};
-ghost use Rattle.frame.specs.Under.{Under};
+ghost use Rattle.frame.specs.Under.{Under, KnownSet};
 ghost use Rattle.frame_rows.specs.Rows.{bapsOf};
 ghost use Rattle.frame_body.specs.Counts.{setCount, setsCount};
 
 // A channel's exponents in a block: none where the block reuses the earlier ones, else 4 bits and at most 84 groups.
-fn count_set(strategy: u8, end: usize) -> u32
-    requires { ⌜ legalEnd end ≡ true ⌝ }
-    ensures { λ r. ⌜ (r ≡ setCount strategy end) × (r ≤ 592) ⌝ }
+fn count_set(set: ExponentSet, end: usize) -> u32
+    requires { ⌜ (legalEnd end ≡ true) × KnownSet set ⌝ }
+    ensures { λ r. ⌜ (r ≡ setCount set end) × (r ≤ 592) ⌝ }
 {
-    if strategy == 0 {
-        return 0;
+    match set {
+        ExponentSet::Reuse => 0,
+        ExponentSet::New(span) => {
+            let groups = exponents::groups::group_count(end, wide(span));
+            4 + 7 * (groups as u32)
+        }
     }
-    let groups = exponents::groups::group_count(end, frame::span_for(strategy));
-    4 + 7 * (groups as u32)
 }
 
 // The new exponent sets of a block.
-fn count_sets(sheet: &[u8], track: Track, strategies: [[u8; 6]; 6], b: usize) -> u32
+fn count_sets(sheet: &[u8], track: Track, strategies: [[BlockSet; 6]; 6], b: usize) -> u32
     requires { ⌜ Under (now sheet) track strategies ⌝ }
     requires { ⌜ b < 6 ⌝ }
     ensures { λ r. ⌜ r ≡ setsCount (now (sheet .entry)) b ⌝ }
 {
     let mut n: u32 = 0;
     for c in 0..track.channels {
-        let strategy = frame::strategy_at(strategies, b, c);
+        let set = frame::set_at(strategies, b, c);
         let end = track.ends[c];
-        n += count_set(strategy, end);
+        n += count_set(set, end);
     }
     n
 }
@@ -42,7 +47,7 @@ fn count_sets(sheet: &[u8], track: Track, strategies: [[u8; 6]; 6], b: usize) ->
 pub fn count_body(
     sheet: &[u8],
     track: Track,
-    strategies: [[u8; 6]; 6],
+    strategies: [[BlockSet; 6]; 6],
     exps: &[u8],
     bap: &[u8],
     codes: &[u16],

@@ -3,6 +3,9 @@ use crate::gather::gather_baps;
 use crate::gather::gather_codes;
 use bits::Writer;
 use frame::Track;
+use sheet::BlockSet;
+use sheet::ExponentSet;
+use sheet::read::wide;
 ghost use mathlib.Core.Path.{_≡_};
 ghost use mathlib.Core.Bool.{true};
 ghost use Prim.Native.Nat.{_*_, _≤_, _<_};
@@ -16,21 +19,21 @@ ghost use Rattle.sheet.specs.Ranges.{legalEnd};
 ghost use Rattle.frame.specs.Layout.{cleanRow};
 ghost use Rattle.frame.specs.Body.{setBits, setsBits, bapRow, blockBits, bodyBits};
 ghost use Rattle.frame.specs.Legal.{LegalFrame};
-ghost use Rattle.frame.specs.Under.{Under};
+ghost use Rattle.frame.specs.Under.{Under, KnownSet};
 ghost use Rattle.frame_rows.specs.Rows.{bapsOf, cleaned};
 ghost use Rattle.frame_body.specs.Writing.{NewSet, NewSets, belowEnds};
 
 // A channel's exponents in a block: none where the block reuses the earlier ones.
-fn put_part(out: &mut [u8], w: Writer, part: &[u8], strategy: u8, end: usize) -> Writer
-    requires { ⌜ (legalEnd end ≡ true) × (end ≤ length (now part)) ⌝ }
-    requires { ⌜ NewSet strategy end (now part) ⌝ }
-    requires { ⌜ Ready w (length (now out)) (length (setBits strategy end (now part))) ⌝ }
-    ensures { λ r. ⌜ Put (now (out .entry)) w (setBits strategy end (now (part .entry))) (now (out .exit)) r ⌝ }
+fn put_part(out: &mut [u8], w: Writer, part: &[u8], set: ExponentSet, end: usize) -> Writer
+    requires { ⌜ (legalEnd end ≡ true) × (end ≤ length (now part)) × KnownSet set ⌝ }
+    requires { ⌜ NewSet set end (now part) ⌝ }
+    requires { ⌜ Ready w (length (now out)) (length (setBits set end (now part))) ⌝ }
+    ensures { λ r. ⌜ Put (now (out .entry)) w (setBits set end (now (part .entry))) (now (out .exit)) r ⌝ }
 {
-    if strategy == 0 {
-        return w;
+    match set {
+        ExponentSet::Reuse => w,
+        ExponentSet::New(span) => exponents::put_exponents(out, w, part, end, wide(span)),
     }
-    exponents::put_exponents(out, w, part, end, frame::span_for(strategy))
 }
 
 // The new exponent sets of a block, by channel number.
@@ -39,7 +42,7 @@ fn put_sets(
     w: Writer,
     sheet: &[u8],
     track: Track,
-    strategies: [[u8; 6]; 6],
+    strategies: [[BlockSet; 6]; 6],
     b: usize,
     row: &[u8],
 ) -> Writer
@@ -51,11 +54,11 @@ fn put_sets(
 {
     let mut w = w;
     for c in 0..track.channels {
-        let strategy = frame::strategy_at(strategies, b, c);
+        let set = frame::set_at(strategies, b, c);
         let end = track.ends[c];
         let a = 256 * c;
         let e = a + 256;
-        w = put_part(out, w, &row[a..e], strategy, end);
+        w = put_part(out, w, &row[a..e], set, end);
     }
     w
 }
@@ -88,7 +91,7 @@ fn put_block(
     w: Writer,
     sheet: &[u8],
     track: Track,
-    strategies: [[u8; 6]; 6],
+    strategies: [[BlockSet; 6]; 6],
     b: usize,
     row: &[u8],
     bap: &[u8],
@@ -112,7 +115,7 @@ fn put_body(
     w: Writer,
     sheet: &[u8],
     track: Track,
-    strategies: [[u8; 6]; 6],
+    strategies: [[BlockSet; 6]; 6],
     exps: &[u8],
     bap: &[u8],
     codes: &[u16],
@@ -149,7 +152,7 @@ pub fn store_body(
     out: &mut [u8],
     sheet: &[u8],
     track: Track,
-    strategies: [[u8; 6]; 6],
+    strategies: [[BlockSet; 6]; 6],
     exps: &[u8],
     bap: &[u8],
     codes: &[u16],

@@ -13,6 +13,7 @@ ghost use Rattle.quantiser.specs.Code.{codeOf};
 ghost use Rattle.frame_encoder.specs.Codes.{codesFor, codePart, codesAt};
 ghost use Rattle.frame_encoder.specs.Made.{Codable, Allocated};
 use frame::Track;
+use sheet::BlockSet;
 
 fn wide(x: u8) -> u32
     ensures { λ r. ⌜ r ≡ x ⌝ }
@@ -56,7 +57,7 @@ fn code_part(coeffs: &[f32], exps: &[u8], bap: &[u8], part: &mut [u16])
 fn code_row(
     sheet: &[u8],
     track: Track,
-    strategies: [[u8; 6]; 6],
+    strategies: [[BlockSet; 6]; 6],
     coeffs: &[f32],
     exps: &[u8],
     bap: &[u8],
@@ -81,7 +82,7 @@ fn code_row(
 pub(crate) fn code_frame(
     sheet: &[u8],
     track: Track,
-    strategies: [[u8; 6]; 6],
+    strategies: [[BlockSet; 6]; 6],
     coeffs: &[f32],
     exps: &[u8],
     bap: &[u8],

@@ -12,6 +12,7 @@ use bits::refusal::ACCEPTED;
 use bits::refusal::NO_ROOM;
 use frame::FrameAnswer;
 use frame::Track;
+use sheet::BlockSet;
 
 // The bytes that so many bits take.
 fn bytes_for(bits: u32) -> usize
@@ -24,7 +25,7 @@ fn bytes_for(bits: u32) -> usize
 pub(crate) fn deliver(
     sheet: &[u8],
     track: Track,
-    strategies: [[u8; 6]; 6],
+    strategies: [[BlockSet; 6]; 6],
     shaped: &[u8],
     allocated: &[u8],
     quantised: &[u16],

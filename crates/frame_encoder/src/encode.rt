@@ -18,12 +18,13 @@ use bits::refusal::NOT_FINITE;
 use bits::refusal::WRONG_LENGTH;
 use frame::FrameAnswer;
 use frame::Track;
+use sheet::BlockSet;
 
 // Exponents, their allocation, and the codes at both.
 fn make_frame(
     sheet: &[u8],
     track: Track,
-    strategies: [[u8; 6]; 6],
+    strategies: [[BlockSet; 6]; 6],
     coeffs: &[f32],
     shaped: &mut [u8],
     allocated: &mut [u8],
@@ -53,7 +54,7 @@ fn make_frame(
 fn encode_accepted(
     sheet: &[u8],
     track: Track,
-    strategies: [[u8; 6]; 6],
+    strategies: [[BlockSet; 6]; 6],
     coeffs: &[f32],
     exps: &mut [u8],
     bap: &mut [u8],

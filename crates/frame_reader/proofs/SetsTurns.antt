@@ -13,7 +13,8 @@ use Rattle.bits.specs.Reading.{ok, fault, gather, Came}
 use Rattle.bits.specs.ReadingLaws.{gather-start, gather-again, gather-fault}
 use Rattle.bits.specs.Refusal as refusal
 use Rattle.bits.specs.declared.read.ReadEnd.{ReadEnd}
-use Rattle.frame.specs.Layout.{channels, endAt, strategyAt}
+use Rattle.sheet.specs.declared.record.ExponentSet.{ExponentSet}
+use Rattle.frame.specs.Layout.{channels, endAt, setAt}
 use Rattle.frame.specs.Reader.{readPart, readSets}
 use Rattle.frame_reader.specs.Reading.{mostSet}
 
@@ -24,7 +25,7 @@ pub record SetsRead (sheet : List ℕ) (b : ℕ) (old : List ℕ) (bits : List B
   pub inside : at ≤ length bits
   pub later : pos ≤ at
   pub near : at ≤ pos + mostSet * c
-  pub read : gather (λ j. readPart (strategyAt sheet b j) (endAt sheet j) (piece 256 j old)) c (from pos bits) ≡ ok (take (256 * c) row) (from at bits)
+  pub read : gather (λ j. readPart (setAt sheet b j) (endAt sheet j) (piece 256 j old)) c (from pos bits) ≡ ok (take (256 * c) row) (from at bits)
   pub rest : drop (256 * c) row ≡ drop (256 * c) old
 
 pub sets-start : (sheet : List ℕ) (b : ℕ) (old : List ℕ) (bits : List Bool) (pos : ℕ) → length old ≡ 256 * channels sheet → pos ≤ length bits
@@ -33,15 +34,15 @@ sets-start sheet b old bits pos long inside =
     record { few = omega arith; long = long; inside = inside; later = omega arith; near = omega arith; read = gather-start _ (from pos bits); rest = refl }
 
 -- what the code holds by value of channel c, and where its part stands: k entries from a on
-pub record Turn (sheet : List ℕ) (b c strategy end a k : ℕ) : Type 0 where
+pub record Turn (sheet : List ℕ) (b c : ℕ) (set : ExponentSet) (end a k : ℕ) : Type 0 where
   pub there : c < channels sheet
-  pub strategy-is : strategy ≡ strategyAt sheet b c
+  pub set-is : set ≡ setAt sheet b c
   pub end-is : end ≡ endAt sheet c
   pub start : a ≡ 256 * c
   pub wide : k ≡ 256
 
 module _ {sheet : List ℕ} {b : ℕ} {old : List ℕ} {bits : List Bool} {pos c : ℕ} {row : List ℕ} {at : ℕ} (t : SetsRead sheet b old bits pos c row at)
-    {strategy end a k : ℕ} (u : Turn sheet b c strategy end a k) where
+    {set : ExponentSet} {end a k : ℕ} (u : Turn sheet b c set end a k) where
   fits : 256 * c + 256 ≤ length row
   fits = omega (arith, within 256 c (channels sheet) (u .there), t .long)
 
@@ -53,9 +54,9 @@ module _ {sheet : List ℕ} {b : ℕ} {old : List ℕ} {bits : List Bool} {pos c
   pub row-size : (part : List ℕ) → length part ≡ 256 → length (placed a k row part) ≡ 256 * channels sheet
   row-size part n = placed-length row part a k (omega (arith, fits, u .start, u .wide)) (n ∙ sym (u .wide)) ∙ t .long
 
-  module _ {part : List ℕ} {r : ReadEnd} (came : Came (readPart strategy end (take k (drop a row)) (from at bits)) part bits at r) where
-    here : Came (readPart (strategyAt sheet b c) (endAt sheet c) (piece 256 c old) (from at bits)) part bits at r
-    here = rw (u .strategy-is, u .end-is, part-old 256 c a k row old (u .start) (u .wide) (t .rest)) at came
+  module _ {part : List ℕ} {r : ReadEnd} (came : Came (readPart set end (take k (drop a row)) (from at bits)) part bits at r) where
+    here : Came (readPart (setAt sheet b c) (endAt sheet c) (piece 256 c old) (from at bits)) part bits at r
+    here = rw (u .set-is, u .end-is, part-old 256 c a k row old (u .start) (u .wide) (t .rest)) at came
 
     pub sets-fault : (r .fault ≡ refusal.accepted → ⊥) → readSets sheet b old (from pos bits) ≡ fault (r .fault)
     unfolding readSets

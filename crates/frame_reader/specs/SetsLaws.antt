@@ -1,5 +1,5 @@
 -- What the exponents of a block are once they were read: as many as before, a reuse block's parts as they were, none below an end above 24.
-use Prim.Native.Nat.{ℕ, zero, suc, _+_, _-_, _*_, _≤_, _<_}
+use Prim.Native.Nat.{ℕ, _+_, _-_, _*_, _≤_, _<_}
 use mathlib.Core.Path.{_≡_, refl, sym, ap, _∙_}
 use mathlib.Core.Bool.{Bool, true}
 use mathlib.Core.List.{List, _++_}
@@ -11,57 +11,61 @@ use Rattle.bits.specs.ReadingLaws.{then-ok, gather-parts}
 use Rattle.bits.specs.Refusal as refusal
 use Rattle.exponents.specs.ReadShaped.{exponents-read}
 use Rattle.exponents.specs.Reading.{readExponents}
+use Rattle.shaping.specs.Passes.{isSpan}
 use Rattle.shaping.specs.ShapedLaws.{shaped-at-most}
+use Rattle.sheet.specs.Laws.{reuse-not-new}
 use Rattle.sheet.specs.Ranges.{legalEnd}
 use Rattle.sheet.specs.Sheet.{checkOf}
+use Rattle.sheet.specs.declared.record.ExponentSet.{ExponentSet}
+use Rattle.sheet.specs.declared.record.ExponentSet.the-variants.{Reuse, New}
 use Rattle.frame.specs.Body.{bapPart, bapRow}
-use Rattle.frame.specs.Layout.{channels, endAt, strategyAt, spanFor}
+use Rattle.frame.specs.Layout.{channels, endAt, setAt}
 use Rattle.frame.specs.LayoutLaws.{length-part, length-bapRow, piece-bap}
 use Rattle.frame.specs.Reader.{readPart, readSets}
-use Rattle.frame.specs.Under.{channel-known, span-known, first-new}
+use Rattle.frame.specs.Under.{KnownSet, channel-known, known-set}
 use Rattle.frame_rows.specs.Rows.{LowRow, KeptBap}
 use Rattle.frame_reader.specs.Reading.{HeldRows}
 
 -- ---- one channel's part
 
 -- a part after the part `old` of the block before
-record PartRead (strategy end : ℕ) (old part : List ℕ) : Type 0 where
-  pub repeats : strategy ≡ 0 → part ≡ old
+record PartRead (set : ExponentSet) (end : ℕ) (old part : List ℕ) : Type 0 where
+  pub repeats : set ≡ Reuse → part ≡ old
   pub low : (bin : ℕ) → bin < end → getD part bin 0 ≤ 24
 
-set-read : (strategy end : ℕ) (bits : List Bool) (exps : List ℕ) (rest : List Bool) → (strategy ≡ 0 → ⊥) → legalEnd end ≡ true → end ≤ 256
-    → readExponents end (spanFor strategy) bits ≡ ok exps rest → (length (exps ++ replicate (256 - end) 0) ≡ 256) × ((bin : ℕ) → bin < end → getD (exps ++ replicate (256 - end) 0) bin 0 ≤ 24)
-set-read strategy end bits exps rest h legal most e =
-    let r = exponents-read end (spanFor strategy) legal (span-known strategy h) bits exps rest e in (
+set-read : (span end : ℕ) (bits : List Bool) (exps : List ℕ) (rest : List Bool) → isSpan span ≡ true → legalEnd end ≡ true → end ≤ 256
+    → readExponents end span bits ≡ ok exps rest → (length (exps ++ replicate (256 - end) 0) ≡ 256) × ((bin : ℕ) → bin < end → getD (exps ++ replicate (256 - end) 0) bin 0 ≤ 24)
+set-read span end bits exps rest known legal most e =
+    let r = exponents-read end span legal known bits exps rest e in (
       rw (length-append, length-replicate) (omega (arith, r .long)),
       λ bin b. rw (List·getD-append exps (replicate (256 - end) 0) 0 bin (omega (arith, r .long))) (shaped-at-most _ exps (r .shaped) bin),
     )
 
-part-read : (strategy end : ℕ) (old : List ℕ) (bits : List Bool) (part : List ℕ) (rest : List Bool) → legalEnd end ≡ true → end ≤ 256 → length old ≡ 256
-    → ((bin : ℕ) → bin < end → getD old bin 0 ≤ 24) → readPart strategy end old bits ≡ ok part rest → (length part ≡ 256) × PartRead strategy end old part
+part-read : (set : ExponentSet) (end : ℕ) (old : List ℕ) (bits : List Bool) (part : List ℕ) (rest : List Bool) → KnownSet set → legalEnd end ≡ true → end ≤ 256 → length old ≡ 256
+    → ((bin : ℕ) → bin < end → getD old bin 0 ≤ 24) → readPart set end old bits ≡ ok part rest → (length part ≡ 256) × PartRead set end old part
 unfolding readPart
-part-read zero end old bits part rest legal most long low e =
+part-read Reuse end old bits part rest known legal most long low e =
     let q : old ≡ part = cc in
     rw (← q) (long, record { repeats = λ z. refl; low = low })
-part-read (suc s) end old bits part rest legal most long low e =
-    then-ok (readExponents end (spanFor (suc s)) bits) _ part rest e
+part-read (New span) end old bits part rest known legal most long low e =
+    then-ok (readExponents end span bits) _ part rest e
     (λ exps t q f.
     let w : exps ++ replicate (256 - end) 0 ≡ part = cc in
-    let g = set-read (suc s) end bits exps t (λ z. omega arith) legal most q in
-    rw (← w) (g .0, record { repeats = λ z. absurd (omega arith); low = g .1 }))
+    let g = set-read span end bits exps t (known .known span refl) legal most q in
+    rw (← w) (g .0, record { repeats = λ z. absurd (reuse-not-new (sym z)); low = g .1 }))
 
 -- ---- the row
 
 module _ (sheet : List ℕ) (accepted : checkOf sheet ≡ refusal.accepted) (b : ℕ) (old : List ℕ) (bits : List Bool) (row : List ℕ) (rest : List Bool)
     (long : length old ≡ 256 * channels sheet) (low : LowRow sheet old) (e : readSets sheet b old bits ≡ ok row rest) where
-  parts-read : (length row ≡ 256 * channels sheet) × ((c : ℕ) → c < channels sheet → PartRead (strategyAt sheet b c) (endAt sheet c) (piece 256 c old) (piece 256 c row))
+  parts-read : (length row ≡ 256 * channels sheet) × ((c : ℕ) → c < channels sheet → PartRead (setAt sheet b c) (endAt sheet c) (piece 256 c old) (piece 256 c row))
   unfolding readSets
   parts-read =
-      gather-parts 256 (λ c part. PartRead (strategyAt sheet b c) (endAt sheet c) (piece 256 c old) part) _ (channels sheet)
+      gather-parts 256 (λ c part. PartRead (setAt sheet b c) (endAt sheet c) (piece 256 c old) part) _ (channels sheet)
       (λ c h t v u q.
       let known = channel-known sheet accepted c h in
       let most : endAt sheet c ≤ 256 = omega (arith, known .end-most) in
-      part-read (strategyAt sheet b c) (endAt sheet c) (piece 256 c old) t v u (known .legal) most (length-part sheet old c long h) (low .low c h) q)
+      part-read (setAt sheet b c) (endAt sheet c) (piece 256 c old) t v u (known-set sheet b c) (known .legal) most (length-part sheet old c long h) (low .low c h) q)
       bits row rest e
 
   pub row-long : length row ≡ 256 * channels sheet
@@ -75,7 +79,7 @@ module _ (sheet : List ℕ) (accepted : checkOf sheet ≡ refusal.accepted) (b :
   row-kept bap held =
       record {
         kept = λ c h z.
-            let later : b ≡ 0 → ⊥ = λ q. first-new sheet accepted c h (rw q at z) in
+            let later : b ≡ 0 → ⊥ = λ q. channel-known sheet accepted c h .first (rw q at z) in
             ap (piece 256 c) (held later) ∙ piece-bap sheet old c h ∙ ap (bapPart sheet c) (sym (parts-read .1 c h .repeats z));
       }
 

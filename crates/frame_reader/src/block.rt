@@ -2,6 +2,7 @@
 use crate::sets::get_sets;
 use bits::refusal::ACCEPTED;
 use frame::Track;
+use sheet::BlockSet;
 ghost use mathlib.Core.Path.{_≡_};
 ghost use Prim.Native.Nat.{_*_, _^_, _≤_, _<_};
 ghost use lib.ListN.{length};
@@ -32,7 +33,7 @@ fn faulty(fault: u32, pos: usize) -> BlockEnd
 pub(crate) fn get_block(
     sheet: &[u8],
     track: Track,
-    strategies: [[u8; 6]; 6],
+    strategies: [[BlockSet; 6]; 6],
     b: usize,
     input: &[u8],
     pos: usize,

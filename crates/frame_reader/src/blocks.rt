@@ -3,6 +3,7 @@ use crate::block::get_block;
 use bits::refusal::ACCEPTED;
 use frame::FrameAnswer;
 use frame::Track;
+use sheet::BlockSet;
 ghost use mathlib.Core.Path.{_≡_};
 ghost use mathlib.Core.List.{_++_};
 ghost use Prim.Native.Nat.{_*_};
@@ -36,7 +37,7 @@ fn twelve(sets: [u32; 6], streams: [u32; 6]) -> [u32; 12]
 pub(crate) fn get_blocks(
     sheet: &[u8],
     track: Track,
-    strategies: [[u8; 6]; 6],
+    strategies: [[BlockSet; 6]; 6],
     input: &[u8],
     row: &mut [u8],
     held: &mut [u8],

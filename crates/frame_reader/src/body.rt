@@ -4,6 +4,7 @@ use bits::refusal::ACCEPTED;
 use bits::refusal::WRONG_LENGTH;
 use frame::FrameAnswer;
 use frame::Track;
+use sheet::BlockSet;
 ghost use mathlib.Core.Path.{_≡_};
 ghost use Prim.Native.Nat.{_*_};
 ghost use lib.ListN.{length};
@@ -17,7 +18,7 @@ ghost use Rattle.frame_reader.specs.Reading.{CameFrame, expsRead, bapRea
 fn get_frame(
     sheet: &[u8],
     track: Track,
-    strategies: [[u8; 6]; 6],
+    strategies: [[BlockSet; 6]; 6],
     input: &[u8],
     exps: &mut [u8],
     bap: &mut [u8],
@@ -47,7 +48,7 @@ fn get_frame(
 fn read_frame(
     sheet: &[u8],
     track: Track,
-    strategies: [[u8; 6]; 6],
+    strategies: [[BlockSet; 6]; 6],
     input: &[u8],
     exps: &mut [u8],
     bap: &mut [u8],

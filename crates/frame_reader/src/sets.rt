@@ -2,6 +2,9 @@
 use bits::ReadEnd;
 use bits::refusal::ACCEPTED;
 use frame::Track;
+use sheet::BlockSet;
+use sheet::ExponentSet;
+use sheet::read::wide;
 ghost use mathlib.Core.Path.{_≡_};
 ghost use mathlib.Core.Bool.{true};
 ghost use Prim.Native.Nat.{_+_, _*_, _^_, _≤_, _<_};
@@ -11,34 +14,30 @@ ghost use Rattle.bits.specs.Read.{from};
 ghost use Rattle.bits.specs.Reading.{Came};
 ghost use Rattle.sheet.specs.Ranges.{legalEnd};
 ghost use Rattle.frame.specs.Reader.{readPart, readSets};
-ghost use Rattle.frame.specs.Under.{Under};
+ghost use Rattle.frame.specs.Under.{Under, KnownSet};
 ghost use Rattle.frame_reader.specs.Reading.{mostSet, mostSets};
 
-// The strategy of a block that repeats the exponents of the block before.
-const REUSE: u8 = 0;
-
 // A channel's part: left where its block is reuse, read where it has a new set.
-fn get_part(input: &[u8], pos: usize, strategy: u8, end: usize, part: &mut [u8]) -> ReadEnd
+fn get_part(input: &[u8], pos: usize, set: ExponentSet, end: usize, part: &mut [u8]) -> ReadEnd
     requires { ⌜ (pos ≤ 8 * length (now input)) × (pos < 2 ^ 32) ⌝ }
-    requires { ⌜ (legalEnd end ≡ true) × (end ≤ 256) × (length (now part) ≡ 256) ⌝ }
-    ensures { λ r. ⌜ Came (readPart strategy end (now (part .entry)) (from pos (bitsOf (now (input .entry))))) (now (part .exit)) (bitsOf (now (input .entry))) pos r ⌝ }
+    requires { ⌜ (legalEnd end ≡ true) × (end ≤ 256) × (length (now part) ≡ 256) × KnownSet set ⌝ }
+    ensures { λ r. ⌜ Came (readPart set end (now (part .entry)) (from pos (bitsOf (now (input .entry))))) (now (part .exit)) (bitsOf (now (input .entry))) pos r ⌝ }
     ensures { λ r. ⌜ r .pos ≤ pos + mostSet ⌝ }
 {
-    if strategy == REUSE {
-        return ReadEnd {
+    match set {
+        ExponentSet::Reuse => ReadEnd {
             fault: ACCEPTED,
             pos,
-        };
+        },
+        ExponentSet::New(span) => exponents::get_exponents(input, pos, end, wide(span), part),
     }
-    let span = frame::span_for(strategy);
-    exponents::get_exponents(input, pos, end, span, part)
 }
 
 // The row of block b.
 pub(crate) fn get_sets(
     sheet: &[u8],
     track: Track,
-    strategies: [[u8; 6]; 6],
+    strategies: [[BlockSet; 6]; 6],
     b: usize,
     input: &[u8],
     pos: usize,
@@ -52,11 +51,11 @@ pub(crate) fn get_sets(
 {
     let mut at = pos;
     for c in 0..track.channels {
-        let strategy = frame::strategy_at(strategies, b, c);
+        let set = frame::set_at(strategies, b, c);
         let end = track.ends[c];
         let a = 256 * c;
         let e = a + 256;
-        let r = get_part(input, at, strategy, end, &mut row[a..e]);
+        let r = get_part(input, at, set, end, &mut row[a..e]);
         if r.fault != ACCEPTED {
             return ReadEnd {
                 fault: r.fault,

@@ -5,8 +5,10 @@ use mathlib.Core.Path.{_≡_}
 use mathlib.Core.List.{List}
 use lib.ListN.{getD, replicate}
 use Rattle.bits.specs.Parts.{joined, piece}
-use Rattle.frame.specs.Layout.{channels, endAt, strategyAt, rowOf, cleanRow}
+use Rattle.frame.specs.Layout.{channels, endAt, setAt, rowOf, cleanRow}
 use Rattle.frame.specs.Body.{bapPart, bapRow}
+use Rattle.sheet.specs.declared.record.ExponentSet.{ExponentSet}
+use Rattle.sheet.specs.declared.record.ExponentSet.the-variants.{Reuse}
 
 -- the bap of all six blocks, each the allocation of its block's exponents
 unfoldable pub bapsOf : List ℕ → List ℕ → List ℕ
@@ -33,10 +35,10 @@ pub record LowRow (sheet row : List ℕ) : Type 0 where
 -- where block b is reuse, `bap` holds the allocation of that channel's exponents already, from the block before: that of a run is worked
 -- out once
 pub record KeptBap (sheet : List ℕ) (b : ℕ) (row bap : List ℕ) : Type 0 where
-  pub kept : (c : ℕ) → c < channels sheet → strategyAt sheet b c ≡ 0 → piece 256 c bap ≡ bapPart sheet c (piece 256 c row)
+  pub kept : (c : ℕ) → c < channels sheet → setAt sheet b c ≡ Reuse → piece 256 c bap ≡ bapPart sheet c (piece 256 c row)
 
 -- the same of one channel's part
-pub record PartReady (sheet : List ℕ) (c strategy : ℕ) (part bap : List ℕ) : Type 0 where
+pub record PartReady (sheet : List ℕ) (c : ℕ) (set : ExponentSet) (part bap : List ℕ) : Type 0 where
   pub there : c < channels sheet
   pub low : (bin : ℕ) → bin < endAt sheet c → getD part bin 0 ≤ 24
-  pub kept : strategy ≡ 0 → bap ≡ bapPart sheet c part
+  pub kept : set ≡ Reuse → bap ≡ bapPart sheet c part

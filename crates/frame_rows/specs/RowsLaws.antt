@@ -10,6 +10,7 @@ use Rattle.bits.specs.Parts.{joined, piece, placed}
 use Rattle.bits.specs.PartsLaws.{joined-length, piece-joined, within, front-taken}
 use Rattle.bits.specs.Refusal as refusal
 use Rattle.sheet.specs.Sheet.{checkOf}
+use Rattle.sheet.specs.declared.record.BlockSet.{BlockSet}
 use Rattle.frame.specs.Body.{bapRow}
 use Rattle.frame.specs.Layout.{channels, rowOf, clean, cleanRow}
 use Rattle.frame.specs.LayoutLaws.{length-row, length-bapRow, length-cleanRow}
@@ -86,7 +87,7 @@ clean-made end codes to ys zs most codes-long to-long copied cleared =
 
 -- ---- what is held of a sheet
 
-module _ {sheet : List ℕ} {track : Track} {strategies : List (List ℕ)} (u : Under sheet track strategies) where
+module _ {sheet : List ℕ} {track : Track} {strategies : List (List BlockSet)} (u : Under sheet track strategies) where
   pub held-most : track .channels ≤ 6
   held-most = omega (arith, held-channels u, channels-some sheet (u .accepted) .1)
 

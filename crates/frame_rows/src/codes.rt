@@ -6,6 +6,7 @@ ghost use Rattle.frame.specs.Layout.{clean, cleanRow};
 ghost use Rattle.frame.specs.Under.{Under};
 ghost use Rattle.frame_rows.specs.Rows.{cleaned};
 use frame::Track;
+use sheet::BlockSet;
 
 // A channel's codes below end, and 0 from there on.
 fn clean_part(codes: &[u16], end: usize, to: &mut [u16])
@@ -17,7 +18,13 @@ fn clean_part(codes: &[u16], end: usize, to: &mut [u16])
 }
 
 // Those of a block.
-fn clean_row(sheet: &[u8], track: Track, strategies: [[u8; 6]; 6], codes: &[u16], to: &mut [u16])
+fn clean_row(
+    sheet: &[u8],
+    track: Track,
+    strategies: [[BlockSet; 6]; 6],
+    codes: &[u16],
+    to: &mut [u16],
+)
     requires { ⌜ Under (now sheet) track strategies ⌝ }
     requires { ⌜ (length (now codes) ≡ 256 * track .channels) × (length (now to) ≡ 256 * track .channels) ⌝ }
     ensures { λ _. ⌜ now (to .exit) ≡ cleanRow (now (sheet .entry)) (now (codes .entry)) ⌝ }
@@ -34,7 +41,7 @@ fn clean_row(sheet: &[u8], track: Track, strategies: [[u8; 6]; 6], codes: &[u16]
 pub fn clean_codes(
     sheet: &[u8],
     track: Track,
-    strategies: [[u8; 6]; 6],
+    strategies: [[BlockSet; 6]; 6],
     codes: &[u16],
     to: &mut [u16],
 )

@@ -12,27 +12,31 @@ ghost use Rattle.frame.specs.Under.{Under};
 ghost use Rattle.frame_rows.specs.Rows.{bapsOf, KeptBap, LowRow, PartReady};
 use crate::zeros::no_row;
 use frame::Track;
+use sheet::BlockSet;
+use sheet::ExponentSet;
 
 // A channel's part: left where its block is reuse, worked out where it has a new set.
-fn allocate_part(sheet: &[u8], c: usize, strategy: u8, end: usize, part: &[u8], bap: &mut [u8])
+fn allocate_part(sheet: &[u8], c: usize, set: ExponentSet, end: usize, part: &[u8], bap: &mut [u8])
     requires { ⌜ checkOf (now sheet) ≡ refusal.accepted ⌝ }
     requires { ⌜ (end ≡ endAt (now sheet) c) × (length (now part) ≡ 256) × (length (now bap) ≡ 256) ⌝ }
-    requires { ⌜ PartReady (now sheet) c strategy (now part) (now bap) ⌝ }
+    requires { ⌜ PartReady (now sheet) c set (now part) (now bap) ⌝ }
     ensures { λ _. ⌜ now (bap .exit) ≡ bapPart (now (sheet .entry)) c (now (part .entry)) ⌝ }
 {
-    if strategy == 0 {
-        return;
+    match set {
+        ExponentSet::Reuse => {}
+        ExponentSet::New(_) => {
+            let common = sheet::common_of(sheet);
+            let channel = sheet::record_of(sheet, c);
+            allocation::allocate(part, end, common, channel, bap);
+        }
     }
-    let common = sheet::common_of(sheet);
-    let channel = sheet::record_of(sheet, c);
-    allocation::allocate(part, end, common, channel, bap);
 }
 
 // The bap of block b, in place over that of the block before.
 pub fn allocate_row(
     sheet: &[u8],
     track: Track,
-    strategies: [[u8; 6]; 6],
+    strategies: [[BlockSet; 6]; 6],
     b: usize,
     row: &[u8],
     bap: &mut [u8],
@@ -44,11 +48,11 @@ pub fn allocate_row(
     ensures { λ _. ⌜ now (bap .exit) ≡ bapRow (now (sheet .entry)) (now (row .entry)) ⌝ }
 {
     for c in 0..track.channels {
-        let strategy = frame::strategy_at(strategies, b, c);
+        let set = frame::set_at(strategies, b, c);
         let end = track.ends[c];
         let a = 256 * c;
         let e = a + 256;
-        allocate_part(sheet, c, strategy, end, &row[a..e], &mut bap[a..e]);
+        allocate_part(sheet, c, set, end, &row[a..e], &mut bap[a..e]);
     }
 }
 
@@ -56,7 +60,7 @@ pub fn allocate_row(
 pub fn allocate_body(
     sheet: &[u8],
     track: Track,
-    strategies: [[u8; 6]; 6],
+    strategies: [[BlockSet; 6]; 6],
     exps: &[u8],
     bap: &mut [u8],
 )

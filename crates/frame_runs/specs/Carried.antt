@@ -1,19 +1,17 @@
 -- The exponents block by block as the code carries them from one to the next: a row holds those of the block before, and a reuse block
 -- leaves its part.
 use Prim.Native.Nat.{ℕ, zero, suc, _*_}
-use mathlib.Core.Bool.{cond}
 use mathlib.Core.List.{List}
-use lib.Dec.{eqb}
 use lib.Ieee.{Float}
 use lib.ListN.{take}
 use Rattle.bits.specs.Parts.{joined, piece}
-use Rattle.frame.specs.Layout.{channels, strategyAt}
+use Rattle.frame.specs.Layout.{channels, setAt, bySet}
 use Rattle.frame_rows.specs.Rows.{noRow}
 use Rattle.frame_runs.specs.Runs.{runPart, partAt}
 
 -- a channel's part of block b, after the part `old` of the block before
 unfoldable pub nextPart : List ℕ → List Float → ℕ → ℕ → List ℕ → List ℕ
-nextPart sheet coeffs b c old = cond (eqb (strategyAt sheet b c) 0) old (runPart sheet coeffs b c)
+nextPart sheet coeffs b c old = bySet (setAt sheet b c) old (runPart sheet coeffs b c)
 
 -- and the parts of all channels
 unfoldable pub nextRow : List ℕ → List Float → ℕ → List ℕ → List ℕ

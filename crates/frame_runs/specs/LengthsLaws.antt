@@ -8,11 +8,13 @@ use lib.Dec.{eqb, ltb}
 use lib.Ieee.{Float}
 use lib.ListN.{length, drop, getD, replicate, length-append, length-drop, length-replicate}
 use Rattle.bits.specs.Refusal as refusal
-use Rattle.frame.specs.Layout.{channels, endAt, strategyAt}
+use Rattle.frame.specs.Layout.{channels, endAt, setAt, bySet}
 use Rattle.frame.specs.Under.{channel-known}
 use Rattle.shaping.specs.MergeLaws.{length-merged}
 use Rattle.shaping.specs.Passes.{backward, forward, led, d15, lowered, frontLowered, lacks, countDown, lowerSpans, merged, spanned, roof, preprocessRefusal, preprocessed, quantiseRefusal, quantised}
 use Rattle.sheet.specs.Sheet.{checkOf}
+use Rattle.sheet.specs.declared.record.ExponentSet.{ExponentSet}
+use Rattle.sheet.specs.declared.record.ExponentSet.the-variants.{Reuse, New}
 use Rattle.frame_runs.specs.Runs.{belowEnd, exponentsOf, leastOf, leastFrom, runLeast, runExponents, runPart, partAt}
 use Rattle.frame_runs.specs.RunsLaws.{whole-below}
 
@@ -77,6 +79,12 @@ length-quantised span xs = length-either (eqb (quantiseRefusal span xs) refusal.
 
 -- ---- runs
 
+length-by-set : (set : ExponentSet) (reused : List ℕ) (new : ℕ → List ℕ) (n : ℕ) → length reused ≡ n → ((span : ℕ) → length (new span) ≡ n)
+    → length (bySet set reused new) ≡ n
+unfolding bySet
+length-by-set Reuse reused new n h k = h
+length-by-set (New span) reused new n h k = k span
+
 length-exponentsOf : (xs : List Float) → length (exponentsOf xs) ≡ length xs
 unfolding exponentsOf
 length-exponentsOf [] = refl
@@ -98,27 +106,27 @@ module _ (sheet : List ℕ) (coeffs : List Float) (accepted : checkOf sheet ≡ 
   length-leastFrom (suc left) b least k e =
       let block = exponentsOf (belowEnd sheet b c coeffs) in
       let one = length-extracted b (omega arith) in
-      length-either (eqb (strategyAt sheet b c) 0) _ least (endAt sheet c)
-      (length-leastFrom left (suc b) (leastOf least block) (omega arith) (length-leastOf least block (e ∙ sym one) ∙ e)) e
+      length-by-set (setAt sheet b c) _ (λ span. least) (endAt sheet c)
+      (length-leastFrom left (suc b) (leastOf least block) (omega arith) (length-leastOf least block (e ∙ sym one) ∙ e)) (λ span. e)
 
   pub length-runLeast : (b : ℕ) → b < 6 → length (runLeast sheet coeffs b c) ≡ endAt sheet c
   unfolding runLeast
   length-runLeast b hb = length-leastFrom (5 - b) (suc b) _ (omega arith) (length-extracted b hb)
 
-  pub length-runExponents : (b : ℕ) → b < 6 → length (runExponents sheet coeffs b c) ≡ endAt sheet c
+  pub length-runExponents : (b : ℕ) → b < 6 → (span : ℕ) → length (runExponents sheet coeffs b c span) ≡ endAt sheet c
   unfolding runExponents
-  length-runExponents b hb = length-quantised _ _ ∙ length-preprocessed _ ∙ length-runLeast b hb
+  length-runExponents b hb span = length-quantised _ _ ∙ length-preprocessed _ ∙ length-runLeast b hb
 
-  length-runPart : (b : ℕ) → b < 6 → length (runPart sheet coeffs b c) ≡ 256
+  length-runPart : (b : ℕ) → b < 6 → (span : ℕ) → length (runPart sheet coeffs b c span) ≡ 256
   unfolding runPart
-  length-runPart b hb =
-      rw (length-append, length-runExponents b hb, length-replicate {A = ℕ} (256 - endAt sheet c) 0)
+  length-runPart b hb span =
+      rw (length-append, length-runExponents b hb span, length-replicate {A = ℕ} (256 - endAt sheet c) 0)
       (omega (arith, channel-known sheet accepted c h .end-most))
 
   length-part : (b : ℕ) → b < 6 → length (partAt sheet coeffs b c) ≡ 256
   unfolding partAt
-  length-part zero hb = length-runPart 0 hb
-  length-part (suc b) hb = length-either (eqb (strategyAt sheet (suc b) c) 0) _ _ 256 (length-part b (omega arith)) (length-runPart (suc b) hb)
+  length-part zero hb = length-by-set (setAt sheet 0 c) _ _ 256 (length-replicate {A = ℕ} 256 0) (length-runPart 0 hb)
+  length-part (suc b) hb = length-by-set (setAt sheet (suc b) c) _ _ 256 (length-part b (omega arith)) (length-runPart (suc b) hb)
 
 pub length-partAt : (sheet : List ℕ) (coeffs : List Float) → checkOf sheet ≡ refusal.accepted → length coeffs ≡ 256 * channels sheet * 6
     → (b c : ℕ) → b < 6 → c < channels sheet → length (partAt sheet coeffs b c) ≡ 256

@@ -6,14 +6,15 @@ use native.Mathlib.Numerals.{add-one}
 use native.Mathlib.Omega.{arith}
 use lib.Ieee.{Float}
 use lib.ListN.{length, take, drop, getD, length-take, length-drop}
-use borrow.Author.Tests.{eq-eqb, ne-eqb}
 use Rattle.bits.specs.Refusal as refusal
-use Rattle.frame.specs.Layout.{channels, endAt, strategyAt}
-use Rattle.frame.specs.Under.{Under, channel-known, held-channels, held-end}
+use Rattle.frame.specs.Layout.{channels, endAt, setAt}
+use Rattle.frame.specs.Under.{Under, channel-known, held-channels, held-end, by-reuse, by-new}
 use Rattle.frame.specs.declared.track.Track.{Track}
 use Rattle.sheet.specs.Laws.{part-within}
 use Rattle.sheet.specs.Layout.{PartStart, partStart}
 use Rattle.sheet.specs.Sheet.{checkOf}
+use Rattle.sheet.specs.declared.record.BlockSet.{BlockSet}
+use Rattle.sheet.specs.declared.record.ExponentSet.the-variants.{Reuse, New}
 use Rattle.frame_runs.specs.Runs.{belowEnd, exponentsOf, leastOf, leastFrom, runLeast}
 
 -- ---- the entries of a channel's block below its end
@@ -23,7 +24,7 @@ pub length-below : {A : Type 0} (sheet : List ℕ) (b c : ℕ) (l : List A) → 
 unfolding belowEnd
 length-below sheet b c l h = rw (length-take, length-drop) (omega arith)
 
-module _ {sheet : List ℕ} {track : Track} {strategies : List (List ℕ)} (u : Under sheet track strategies) where
+module _ {sheet : List ℕ} {track : Track} {strategies : List (List BlockSet)} (u : Under sheet track strategies) where
   module _ (b c a : ℕ) (p : PartStart (track .channels) b c a) (h : c < channels sheet) where
     -- they lie within a buffer
     pub below-fits : (n : ℕ) → n ≡ 256 * channels sheet * 6 → a + getD (track .ends) c 0 ≤ n
@@ -47,15 +48,15 @@ whole-below sheet b c l accepted hb hc e =
 
 module _ (sheet : List ℕ) (coeffs : List Float) (c b : ℕ) (least : List ℕ) where
   -- a reuse block is one of the run
-  pub run-on : strategyAt sheet b c ≡ 0 → b < 6 → leastFrom sheet coeffs c (6 - b) b least
+  pub run-on : setAt sheet b c ≡ Reuse → b < 6 → leastFrom sheet coeffs c (6 - b) b least
       ≡ leastFrom sheet coeffs c (6 - (b + 1)) (b + 1) (leastOf least (exponentsOf (belowEnd sheet b c coeffs)))
   unfolding leastFrom
-  run-on h l = let e : 6 - b ≡ suc (6 - (b + 1)) = omega arith in rw (e, eq-eqb _ _ h, add-one)
+  run-on h l = let e : 6 - b ≡ suc (6 - (b + 1)) = omega arith in rw (e, by-reuse _ _ h, add-one)
 
   -- a new block ends it
-  pub run-stops : (strategyAt sheet b c ≡ 0 → ⊥) → b < 6 → least ≡ leastFrom sheet coeffs c (6 - b) b least
+  pub run-stops : (span : ℕ) → setAt sheet b c ≡ New span → b < 6 → least ≡ leastFrom sheet coeffs c (6 - b) b least
   unfolding leastFrom
-  run-stops h l = let e : 6 - b ≡ suc (5 - b) = omega arith in rw (e, ne-eqb _ _ h)
+  run-stops span h l = let e : 6 - b ≡ suc (5 - b) = omega arith in rw (e, by-new _ _ span h)
 
   -- and so does the frame's end
   pub run-ends : 6 ≤ b → least ≡ leastFrom sheet coeffs c (6 - b) b least

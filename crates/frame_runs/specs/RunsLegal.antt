@@ -8,75 +8,73 @@ use native.Mathlib.Omega.{arith}
 use lib.Ieee.{Float}
 use lib.ListN.{length, take, replicate}
 use lib.Seq.{take-at}
-use borrow.Author.Tests.{eq-eqb, ne-eqb}
 use Rattle.bits.specs.Parts.{piece}
 use Rattle.bits.specs.Refusal as refusal
-use Rattle.frame.specs.Layout.{channels, endAt, strategyAt, spanFor, rowOf, clean}
+use Rattle.frame.specs.Layout.{channels, endAt, setAt, rowOf, clean}
 use Rattle.frame.specs.Legal.{partLegal, rowLegal, expsLegal}
 use Rattle.frame.specs.LegalLaws.{alike-itself}
 use Rattle.frame.specs.Reader.{earlier}
-use Rattle.frame.specs.Under.{channel-known, span-known, first-new}
+use Rattle.frame.specs.Under.{channel-known, known-set, one-of-two, by-reuse, by-new}
 use Rattle.frame_rows.specs.LegalLaws.{earlier-taken}
 use Rattle.frame_rows.specs.Rows.{cleaned}
 use Rattle.shaping.specs.Shaped.{shapedFor, shaped-of}
 use Rattle.shaping.specs.ShapedLaws.{run-shaped}
 use Rattle.sheet.specs.Sheet.{checkOf}
 use Rattle.sheet.specs.Tests.{all-hold}
+use Rattle.sheet.specs.declared.record.ExponentSet.the-variants.{Reuse, New}
 use Rattle.frame_runs.specs.FramedLaws.{length-framed, part-framed, framed-clean}
 use Rattle.frame_runs.specs.LengthsLaws.{length-runLeast, length-runExponents, length-partAt}
 use Rattle.frame_runs.specs.Runs.{runLeast, runExponents, runPart, partAt, expsOf}
 
 -- ---- tests that hold
 
-legal-reuse : (s end : ℕ) (old part : List ℕ) → s ≡ 0 → take end old ≡ take end part → partLegal s end old part ≡ true
+legal-reuse : (end : ℕ) (old part : List ℕ) → take end old ≡ take end part → partLegal Reuse end old part ≡ true
 unfolding partLegal
-legal-reuse zero end old part z e = rw e (alike-itself (take end part))
-legal-reuse (suc s) end old part z e = absurd (omega arith)
+legal-reuse end old part e = rw e (alike-itself (take end part))
 
-legal-new : (s end : ℕ) (old part : List ℕ) → (s ≡ 0 → ⊥) → shapedFor (spanFor s - 1) (take end part) ≡ true → partLegal s end old part ≡ true
+legal-new : (span end : ℕ) (old part : List ℕ) → shapedFor (span - 1) (take end part) ≡ true → partLegal (New span) end old part ≡ true
 unfolding partLegal
-legal-new zero end old part z h = absurd (z refl)
-legal-new (suc s) end old part z h = h
+legal-new span end old part h = h
 
 module _ (sheet : List ℕ) (coeffs : List Float) (accepted : checkOf sheet ≡ refusal.accepted) (whole : length coeffs ≡ 256 * channels sheet * 6) where
   -- ---- a channel's part of a block
 
-  module _ (b c : ℕ) (hb : b < 6) (hc : c < channels sheet) where
-    run-taken : take (endAt sheet c) (runPart sheet coeffs b c) ≡ runExponents sheet coeffs b c
+  module _ (b c : ℕ) (hb : b < 6) (hc : c < channels sheet) (span : ℕ) where
+    run-taken : take (endAt sheet c) (runPart sheet coeffs b c span) ≡ runExponents sheet coeffs b c span
     unfolding runPart
-    run-taken = take-at (runExponents sheet coeffs b c) _ (endAt sheet c) (length-runExponents sheet coeffs accepted whole c hc b hb)
+    run-taken = take-at (runExponents sheet coeffs b c span) _ (endAt sheet c) (length-runExponents sheet coeffs accepted whole c hc b hb span)
 
-    run-clean : clean (endAt sheet c) (runPart sheet coeffs b c) ≡ runPart sheet coeffs b c
+    run-clean : clean (endAt sheet c) (runPart sheet coeffs b c span) ≡ runPart sheet coeffs b c span
     unfolding clean runPart
     run-clean = ap (λ (l : List ℕ). l ++ replicate (256 - endAt sheet c) 0) run-taken
 
-    run-legal : (old : List ℕ) → (strategyAt sheet b c ≡ 0 → ⊥) → partLegal (strategyAt sheet b c) (endAt sheet c) old (runPart sheet coeffs b c) ≡ true
+    run-legal : (old : List ℕ) → setAt sheet b c ≡ New span → partLegal (New span) (endAt sheet c) old (runPart sheet coeffs b c span) ≡ true
     unfolding runExponents
     run-legal old new =
         let least = length-runLeast sheet coeffs accepted whole c hc b hb in
         let most = channel-known sheet accepted c hc .end-most in
-        legal-new (strategyAt sheet b c) (endAt sheet c) old (runPart sheet coeffs b c) new
-        (rw run-taken (shaped-of _ _ (run-shaped (spanFor (strategyAt sheet b c)) (runLeast sheet coeffs b c) (span-known (strategyAt sheet b c) new) (omega arith))))
+        legal-new span (endAt sheet c) old (runPart sheet coeffs b c span)
+        (rw run-taken (shaped-of _ _ (run-shaped span (runLeast sheet coeffs b c) (known-set sheet b c .known span new) (omega arith))))
 
-  by-strategy : {X : Type 0} (s : ℕ) → (s ≡ 0 → X) → ((s ≡ 0 → ⊥) → X) → X
-  by-strategy zero reuse new = reuse refl
-  by-strategy (suc s) reuse new = new (λ z. omega arith)
-
-  reuse-part : (b c : ℕ) → strategyAt sheet (suc b) c ≡ 0 → partAt sheet coeffs (suc b) c ≡ partAt sheet coeffs b c
+  reuse-part : (b c : ℕ) → setAt sheet (suc b) c ≡ Reuse → partAt sheet coeffs (suc b) c ≡ partAt sheet coeffs b c
   unfolding partAt
-  reuse-part b c z = rw (eq-eqb _ _ z)
+  reuse-part b c z = by-reuse _ _ z
 
-  new-part : (b c : ℕ) → (strategyAt sheet b c ≡ 0 → ⊥) → partAt sheet coeffs b c ≡ runPart sheet coeffs b c
+  new-part : (b c span : ℕ) → setAt sheet b c ≡ New span → partAt sheet coeffs b c ≡ runPart sheet coeffs b c span
   unfolding partAt
-  new-part zero c new = refl
-  new-part (suc b) c new = rw (ne-eqb _ _ new)
+  new-part zero c span new = by-new _ _ span new
+  new-part (suc b) c span new = by-new _ _ span new
+
+  -- block 0 has a new set
+  first-new : {X : Type 0} (c : ℕ) → c < channels sheet → ((span : ℕ) → setAt sheet 0 c ≡ New span → X) → X
+  first-new c hc = one-of-two (setAt sheet 0 c) (λ z. absurd (channel-known sheet accepted c hc .first z))
 
   part-clean : (b c : ℕ) → b < 6 → c < channels sheet → clean (endAt sheet c) (partAt sheet coeffs b c) ≡ partAt sheet coeffs b c
-  part-clean zero c hb hc = rw (new-part 0 c (first-new sheet accepted c hc)) (run-clean 0 c hb hc)
+  part-clean zero c hb hc = first-new c hc (λ span new. rw (new-part 0 c span new) (run-clean 0 c hb hc span))
   part-clean (suc b) c hb hc =
-      by-strategy (strategyAt sheet (suc b) c)
+      one-of-two (setAt sheet (suc b) c)
       (λ z. rw (reuse-part b c z) (part-clean b c (omega arith) hc))
-      (λ new. rw (new-part (suc b) c new) (run-clean (suc b) c hb hc))
+      (λ span new. rw (new-part (suc b) c span new) (run-clean (suc b) c hb hc span))
 
   -- ---- the frame
 
@@ -97,21 +95,21 @@ module _ (sheet : List ℕ) (coeffs : List Float) (accepted : checkOf sheet ≡ 
   expsOf-clean = framed-clean sheet (partAt sheet coeffs) long part-clean
 
   part-legal : (b c : ℕ) → b < 6 → c < channels sheet
-      → partLegal (strategyAt sheet b c) (endAt sheet c) (piece 256 c (earlier sheet (expsOf sheet coeffs) b)) (partAt sheet coeffs b c) ≡ true
-  part-legal zero c hb hc = rw (new-part 0 c (first-new sheet accepted c hc)) (run-legal 0 c hb hc _ (first-new sheet accepted c hc))
+      → partLegal (setAt sheet b c) (endAt sheet c) (piece 256 c (earlier sheet (expsOf sheet coeffs) b)) (partAt sheet coeffs b c) ≡ true
+  part-legal zero c hb hc = first-new c hc (λ span new. rw (new-part 0 c span new, new) (run-legal 0 c hb hc span _ new))
   part-legal (suc b) c hb hc =
       let exps = expsOf sheet coeffs in
-      by-strategy (strategyAt sheet (suc b) c)
-      (λ z. legal-reuse (strategyAt sheet (suc b) c) (endAt sheet c) (piece 256 c (earlier sheet exps (suc b))) (partAt sheet coeffs (suc b) c) z
-      (earlier-taken sheet exps accepted length-expsOf b c hb hc ∙ ap (take (endAt sheet c)) (part-expsOf b c (omega arith) hc ∙ sym (reuse-part b c z))))
-      (λ new. rw (new-part (suc b) c new) (run-legal (suc b) c hb hc _ new))
+      one-of-two (setAt sheet (suc b) c)
+      (λ z. rw z (legal-reuse (endAt sheet c) (piece 256 c (earlier sheet exps (suc b))) (partAt sheet coeffs (suc b) c)
+      (earlier-taken sheet exps accepted length-expsOf b c hb hc ∙ ap (take (endAt sheet c)) (part-expsOf b c (omega arith) hc ∙ sym (reuse-part b c z)))))
+      (λ span new. rw (new-part (suc b) c span new, new) (run-legal (suc b) c hb hc span _ new))
 
   row-legal : (b : ℕ) → b < 6 → rowLegal sheet b (earlier sheet (expsOf sheet coeffs) b) (rowOf sheet b (expsOf sheet coeffs)) ≡ true
   unfolding rowLegal
   row-legal b hb =
       let old = earlier sheet (expsOf sheet coeffs) b in
       let row = rowOf sheet b (expsOf sheet coeffs) in
-      all-hold (channels sheet) (λ c. partLegal (strategyAt sheet b c) (endAt sheet c) (piece 256 c old) (piece 256 c row))
+      all-hold (channels sheet) (λ c. partLegal (setAt sheet b c) (endAt sheet c) (piece 256 c old) (piece 256 c row))
       (λ c hc. rw (part-expsOf b c hb hc) (part-legal b c hb hc))
 
   -- cause 4 is never met

@@ -6,6 +6,7 @@ ghost use Rattle.frame.specs.Under.{Under};
 ghost use Rattle.frame.specs.Layout.{channels};
 ghost use Rattle.frame_runs.specs.Finite.{finitePart, finiteRow, allFinite};
 use frame::Track;
+use sheet::BlockSet;
 
 fn part_finite(part: &[f32]) -> bool
     ensures { λ r. ⌜ r ≡ finitePart (now (part .entry)) ⌝ }
@@ -23,7 +24,7 @@ fn part_finite(part: &[f32]) -> bool
 fn row_finite(
     sheet: &[u8],
     track: Track,
-    strategies: [[u8; 6]; 6],
+    strategies: [[BlockSet; 6]; 6],
     coeffs: &[f32],
     b: usize,
 ) -> bool
@@ -40,7 +41,12 @@ fn row_finite(
     all
 }
 
-pub fn all_finite(sheet: &[u8], track: Track, strategies: [[u8; 6]; 6], coeffs: &[f32]) -> bool
+pub fn all_finite(
+    sheet: &[u8],
+    track: Track,
+    strategies: [[BlockSet; 6]; 6],
+    coeffs: &[f32],
+) -> bool
     requires { ⌜ Under (now sheet) track strategies ⌝ }
     requires { ⌜ length (now coeffs) ≡ 256 * channels (now sheet) * 6 ⌝ }
     ensures { λ r. ⌜ r ≡ allFinite (now (sheet .entry)) (now (coeffs .entry)) ⌝ }

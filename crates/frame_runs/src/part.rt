@@ -9,6 +9,9 @@ ghost use Rattle.frame_runs.specs.Finite.{finitePart, Encodable};
 ghost use Rattle.frame_runs.specs.Runs.{exponentsOf, leastOf, leastFrom, runLeast, runExponents, runPart};
 ghost use Rattle.frame_runs.specs.Carried.{nextPart};
 use frame::Track;
+use sheet::BlockSet;
+use sheet::ExponentSet;
+use sheet::read::wide;
 
 fn least(a: u8, b: u8) -> u8
     ensures { λ r. ⌜ r ≡ min a b ⌝ }
@@ -46,7 +49,7 @@ fn lower_part(coeffs: &[f32], part: &mut [u8])
 fn lower_by_reuse(
     sheet: &[u8],
     track: Track,
-    strategies: [[u8; 6]; 6],
+    strategies: [[BlockSet; 6]; 6],
     coeffs: &[f32],
     c: usize,
     first: usize,
@@ -59,7 +62,8 @@ fn lower_by_reuse(
 {
     let mut b = first;
     while b < 6 {
-        if frame::strategy_at(strategies, b, c) != 0 {
+        let set = frame::set_at(strategies, b, c);
+        if let ExponentSet::New(_) = set {
             return;
         }
         let a = sheet::part_start(track.channels, b, c);
@@ -73,7 +77,7 @@ fn lower_by_reuse(
 fn run_least(
     sheet: &[u8],
     track: Track,
-    strategies: [[u8; 6]; 6],
+    strategies: [[BlockSet; 6]; 6],
     coeffs: &[f32],
     b: usize,
     c: usize,
@@ -90,44 +94,54 @@ fn run_least(
     lower_by_reuse(sheet, track, strategies, coeffs, c, b + 1, part);
 }
 
-// They are shaped: `preprocess_d15`, then the strategy's span.
+// They are shaped: `preprocess_d15`, then the set's span.
 fn run_exponents(
     sheet: &[u8],
     track: Track,
-    strategies: [[u8; 6]; 6],
+    strategies: [[BlockSet; 6]; 6],
     coeffs: &[f32],
     b: usize,
     c: usize,
+    span: usize,
     part: &mut [u8],
 )
     requires { ⌜ Under (now sheet) track strategies ⌝ }
     requires { ⌜ Encodable (now sheet) (now coeffs) ⌝ }
     requires { ⌜ (b < 6) × (c < channels (now sheet)) × (length (now part) ≡ endAt (now sheet) c) ⌝ }
-    ensures { λ _. ⌜ now (part .exit) ≡ runExponents (now (sheet .entry)) (now (coeffs .entry)) b c ⌝ }
+    ensures { λ _. ⌜ now (part .exit) ≡ runExponents (now (sheet .entry)) (now (coeffs .entry)) b c span ⌝ }
 {
     run_least(sheet, track, strategies, coeffs, b, c, part);
     shaping::preprocess_d15(part);
-    let span = frame::span_for(frame::strategy_at(strategies, b, c));
     shaping::quantise_exponents_to_grpsize(part, span);
 }
 
-// Block b begins a run.
+// Block b begins a run, with a new set of this span.
 fn begin_run(
     sheet: &[u8],
     track: Track,
-    strategies: [[u8; 6]; 6],
+    strategies: [[BlockSet; 6]; 6],
     coeffs: &[f32],
     b: usize,
     c: usize,
+    span: usize,
     part: &mut [u8],
 )
     requires { ⌜ Under (now sheet) track strategies ⌝ }
     requires { ⌜ Encodable (now sheet) (now coeffs) ⌝ }
     requires { ⌜ (b < 6) × (c < channels (now sheet)) × (length (now part) ≡ 256) ⌝ }
-    ensures { λ _. ⌜ now (part .exit) ≡ runPart (now (sheet .entry)) (now (coeffs .entry)) b c ⌝ }
+    ensures { λ _. ⌜ now (part .exit) ≡ runPart (now (sheet .entry)) (now (coeffs .entry)) b c span ⌝ }
 {
     let end = track.ends[c];
-    run_exponents(sheet, track, strategies, coeffs, b, c, &mut part[0..end]);
+    run_exponents(
+        sheet,
+        track,
+        strategies,
+        coeffs,
+        b,
+        c,
+        span,
+        &mut part[0..end],
+    );
     slices::fill(&mut part[end..256], 0);
 }
 
@@ -135,7 +149,7 @@ fn begin_run(
 pub(crate) fn next_part(
     sheet: &[u8],
     track: Track,
-    strategies: [[u8; 6]; 6],
+    strategies: [[BlockSet; 6]; 6],
     coeffs: &[f32],
     b: usize,
     c: usize,
@@ -146,8 +160,11 @@ pub(crate) fn next_part(
     requires { ⌜ (b < 6) × (c < channels (now sheet)) × (length (now part) ≡ 256) ⌝ }
     ensures { λ _. ⌜ now (part .exit) ≡ nextPart (now (sheet .entry)) (now (coeffs .entry)) b c (now (part .entry)) ⌝ }
 {
-    if frame::strategy_at(strategies, b, c) == 0 {
-        return;
+    let set = frame::set_at(strategies, b, c);
+    match set {
+        ExponentSet::Reuse => {}
+        ExponentSet::New(span) => {
+            begin_run(sheet, track, strategies, coeffs, b, c, wide(span), part)
+        }
     }
-    begin_run(sheet, track, strategies, coeffs, b, c, part);
 }

@@ -10,12 +10,13 @@ ghost use Rattle.frame_runs.specs.Carried.{nextRow};
 use crate::part::next_part;
 use frame::Track;
 use frame_rows::no_row;
+use sheet::BlockSet;
 
 // Block b, over the block before.
 fn next_row(
     sheet: &[u8],
     track: Track,
-    strategies: [[u8; 6]; 6],
+    strategies: [[BlockSet; 6]; 6],
     coeffs: &[f32],
     b: usize,
     row: &mut [u8],
@@ -35,7 +36,7 @@ fn next_row(
 pub fn fill_exponents(
     sheet: &[u8],
     track: Track,
-    strategies: [[u8; 6]; 6],
+    strategies: [[BlockSet; 6]; 6],
     coeffs: &[f32],
     exps: &mut [u8],
 )

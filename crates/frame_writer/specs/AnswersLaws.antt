@@ -11,6 +11,7 @@ use Rattle.bits.specs.Bytes.{bytesFor}
 use Rattle.bits.specs.Refusal as refusal
 use Rattle.sheet.specs.Layout.{bufferLength}
 use Rattle.sheet.specs.Sheet.{checkOf}
+use Rattle.sheet.specs.declared.record.BlockSet.{BlockSet}
 use Rattle.frame.specs.Answers.{gives, turnedBack, writeAnswer}
 use Rattle.frame.specs.Body.{bodyBits, countsOf, total}
 use Rattle.frame.specs.Layout.{channels}
@@ -29,7 +30,7 @@ pub record Sized (sheet exps codes : List ℕ) : Type 0 where
   pub codes-long : length codes ≡ 256 * channels sheet * 6
 
 -- by the number of channels that is held by value
-pub under-sized : {sheet : List ℕ} {track : Track} {strategies : List (List ℕ)} → Under sheet track strategies → (exps codes : List ℕ)
+pub under-sized : {sheet : List ℕ} {track : Track} {strategies : List (List BlockSet)} → Under sheet track strategies → (exps codes : List ℕ)
     → length exps ≡ 256 * track .channels * 6 → length codes ≡ 256 * track .channels * 6 → Sized sheet exps codes
 under-sized u exps codes e c = record { accepted = u .accepted; exps-long = rw (held-channels u) at e; codes-long = rw (held-channels u) at c }
 

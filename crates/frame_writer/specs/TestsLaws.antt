@@ -15,10 +15,12 @@ use Rattle.mantissas.specs.Stream.{coded}
 use Rattle.shaping.specs.Passes.{isSpan}
 use Rattle.shaping.specs.Shaped.{shapedFor}
 use Rattle.sheet.specs.Sheet.{checkOf}
-use Rattle.frame.specs.Layout.{channels, endAt, strategyAt, spanFor, rowOf}
+use Rattle.sheet.specs.declared.record.ExponentSet.{ExponentSet}
+use Rattle.sheet.specs.declared.record.ExponentSet.the-variants.{Reuse, New}
+use Rattle.frame.specs.Layout.{channels, endAt, setAt, rowOf}
 use Rattle.frame.specs.Legal.{alike, partLegal, rowLegal, codesLegal}
 use Rattle.frame.specs.Reader.{earlier}
-use Rattle.frame.specs.Under.{first-new, span-known}
+use Rattle.frame.specs.Under.{channel-known}
 use Rattle.frame_rows.specs.CleanLaws.{all-below-same}
 use Rattle.frame_rows.specs.LegalLaws.{earlier-taken}
 use Rattle.frame_rows.specs.Rows.{bapsOf, cleaned}
@@ -56,33 +58,29 @@ alike-end i xs ys h l = rw (drop-of-length-le xs h, drop-of-length-le ys l)
 
 -- ---- exponents
 
-pub part-reuse : (s end : ℕ) (old part : List ℕ) → s ≡ 0 → alike (take end old) (take end part) ≡ partLegal s end old part
+pub part-reuse : (set : ExponentSet) (end : ℕ) (old part : List ℕ) → set ≡ Reuse → alike (take end old) (take end part) ≡ partLegal set end old part
 unfolding partLegal
-part-reuse s end old part e = rw e
+part-reuse set end old part e = rw e
 
-pub part-new : (s end : ℕ) (old part : List ℕ) → (s ≡ 0 → ⊥) → shapedFor (spanFor s - 1) (take end part) ≡ partLegal s end old part
+pub part-new : (set : ExponentSet) (span end : ℕ) (old part : List ℕ) → set ≡ New span → shapedFor (span - 1) (take end part) ≡ partLegal set end old part
 unfolding partLegal
-part-new zero end old part h = absurd (h refl)
-part-new (suc s) end old part h = refl
+part-new set span end old part e = rw e
 
-some-span : (span : ℕ) → isSpan span ≡ true → 1 ≤ span
-some-span zero h = absurd (true≢false (sym h))
-some-span (suc span) h = omega arith
-
-pub span-least : (s : ℕ) → (s ≡ 0 → ⊥) → 1 ≤ spanFor s
-span-least s h = some-span (spanFor s) (span-known s h)
+pub span-least : (span : ℕ) → isSpan span ≡ true → 1 ≤ span
+span-least zero h = absurd (true≢false (sym h))
+span-least (suc span) h = omega arith
 
 -- only a reuse block depends on the part before, and on what stands there below end
-part-after : (s end : ℕ) (old other part : List ℕ) → (s ≡ 0 → take end old ≡ take end other) → partLegal s end old part ≡ partLegal s end other part
+part-after : (set : ExponentSet) (end : ℕ) (old other part : List ℕ) → (set ≡ Reuse → take end old ≡ take end other) → partLegal set end old part ≡ partLegal set end other part
 unfolding partLegal
-part-after zero end old other part h = ap (λ (l : List ℕ). alike l (take end part)) (h refl)
-part-after (suc s) end old other part h = refl
+part-after Reuse end old other part h = ap (λ (l : List ℕ). alike l (take end part)) (h refl)
+part-after (New span) end old other part h = refl
 
 -- so the block before may be taken as it stands in the buffer
 below-end : (sheet exps : List ℕ) → checkOf sheet ≡ refusal.accepted → length exps ≡ 256 * channels sheet * 6 → (b c : ℕ) → b < 6 → c < channels sheet
-    → strategyAt sheet b c ≡ 0
+    → setAt sheet b c ≡ Reuse
     → take (endAt sheet c) (piece 256 c (rowOf sheet (b - 1) exps)) ≡ take (endAt sheet c) (piece 256 c (earlier sheet exps b))
-below-end sheet exps accepted long zero c hb hc z = absurd (first-new sheet accepted c hc z)
+below-end sheet exps accepted long zero c hb hc z = absurd (channel-known sheet accepted c hc .first z)
 below-end sheet exps accepted long (suc b) c hb hc z = let e : suc b - 1 ≡ b = omega arith in rw e (sym (earlier-taken sheet exps accepted long b c hb hc))
 
 pub row-after : (sheet exps : List ℕ) → checkOf sheet ≡ refusal.accepted → length exps ≡ 256 * channels sheet * 6 → (b : ℕ) → b < 6
@@ -90,4 +88,4 @@ pub row-after : (sheet exps : List ℕ) → checkOf sheet ≡ refusal.accepted �
 unfolding rowLegal
 row-after sheet exps accepted long b hb =
     all-below-same (channels sheet) _ _
-    (λ c hc. part-after (strategyAt sheet b c) (endAt sheet c) _ _ (piece 256 c (rowOf sheet b exps)) (below-end sheet exps accepted long b c hb hc))
+    (λ c hc. part-after (setAt sheet b c) (endAt sheet c) _ _ (piece 256 c (rowOf sheet b exps)) (below-end sheet exps accepted long b c hb hc))

@@ -3,9 +3,12 @@ ghost use mathlib.Core.Path.{_≡_};
 ghost use Prim.Native.Nat.{_*_, _-_, _<_, _≤_};
 ghost use lib.ListN.{length};
 ghost use Rattle.frame.specs.Legal.{alike, expsLegal, partLegal, rowLegal};
-ghost use Rattle.frame.specs.Under.{Under};
+ghost use Rattle.frame.specs.Under.{Under, KnownSet};
 ghost use Rattle.frame_writer.specs.Tests.{rowsCoded};
 use frame::Track;
+use sheet::BlockSet;
+use sheet::ExponentSet;
+use sheet::read::wide;
 
 // Whether two slices hold the same.
 fn alike(x: &[u8], y: &[u8]) -> bool
@@ -23,21 +26,21 @@ fn alike(x: &[u8], y: &[u8]) -> bool
 }
 
 // A channel's part of a block, after its part of the block before.
-fn part_legal(strategy: u8, end: usize, old: &[u8], part: &[u8]) -> bool
-    requires { ⌜ (end ≤ length (now old)) × (end ≤ length (now part)) ⌝ }
-    ensures { λ r. ⌜ r ≡ partLegal strategy end (now (old .entry)) (now (part .entry)) ⌝ }
+fn part_legal(set: ExponentSet, end: usize, old: &[u8], part: &[u8]) -> bool
+    requires { ⌜ (end ≤ length (now old)) × (end ≤ length (now part)) × KnownSet set ⌝ }
+    ensures { λ r. ⌜ r ≡ partLegal set end (now (old .entry)) (now (part .entry)) ⌝ }
 {
-    if strategy == 0 {
-        return alike(&old[0..end], &part[0..end]);
+    match set {
+        ExponentSet::Reuse => alike(&old[0..end], &part[0..end]),
+        ExponentSet::New(span) => shaping::is_shaped(&part[0..end], wide(span)),
     }
-    shaping::is_shaped(&part[0..end], frame::span_for(strategy))
 }
 
 // The exponents of block b, after those of the block before.
 fn row_legal(
     sheet: &[u8],
     track: Track,
-    strategies: [[u8; 6]; 6],
+    strategies: [[BlockSet; 6]; 6],
     b: usize,
     old: &[u8],
     row: &[u8],
@@ -48,11 +51,11 @@ fn row_legal(
 {
     let mut all = true;
     for c in 0..track.channels {
-        let strategy = frame::strategy_at(strategies, b, c);
+        let set = frame::set_at(strategies, b, c);
         let end = track.ends[c];
         let a = 256 * c;
         let e = a + 256;
-        all = all & part_legal(strategy, end, &old[a..e], &row[a..e]);
+        all = all & part_legal(set, end, &old[a..e], &row[a..e]);
     }
     all
 }
@@ -65,7 +68,12 @@ fn block_before(b: usize) -> usize
 }
 
 // Cause 4: the exponents of all six blocks.
-pub(crate) fn exps_legal(sheet: &[u8], track: Track, strategies: [[u8; 6]; 6], exps: &[u8]) -> bool
+pub(crate) fn exps_legal(
+    sheet: &[u8],
+    track: Track,
+    strategies: [[BlockSet; 6]; 6],
+    exps: &[u8],
+) -> bool
     requires { ⌜ Under (now sheet) track strategies ⌝ }
     requires { ⌜ length (now exps) ≡ 256 * track .channels * 6 ⌝ }
     ensures { λ r. ⌜ r ≡ expsLegal (now (sheet .entry)) (now (exps .entry)) ⌝ }
@@ -86,7 +94,7 @@ pub(crate) fn exps_legal(sheet: &[u8], track: Track, strategies: [[u8; 6]; 6], e
 pub(crate) fn codes_legal(
     sheet: &[u8],
     track: Track,
-    strategies: [[u8; 6]; 6],
+    strategies: [[BlockSet; 6]; 6],
     bap: &[u8],
     codes: &[u16],
 ) -> bool

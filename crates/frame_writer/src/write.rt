@@ -18,12 +18,13 @@ use bits::refusal::NO_ROOM;
 use bits::refusal::WRONG_LENGTH;
 use frame::FrameAnswer;
 use frame::Track;
+use sheet::BlockSet;
 
 // A legal frame, its codes clean: refused only where the output is too short.
 fn write_legal(
     sheet: &[u8],
     track: Track,
-    strategies: [[u8; 6]; 6],
+    strategies: [[BlockSet; 6]; 6],
     exps: &[u8],
     bap: &[u8],
     codes: &[u16],
@@ -53,7 +54,7 @@ fn write_legal(
 fn write_shaped(
     sheet: &[u8],
     track: Track,
-    strategies: [[u8; 6]; 6],
+    strategies: [[BlockSet; 6]; 6],
     exps: &[u8],
     bap: &[u8],
     codes: &[u16],
@@ -78,7 +79,7 @@ fn write_shaped(
 fn write_sized(
     sheet: &[u8],
     track: Track,
-    strategies: [[u8; 6]; 6],
+    strategies: [[BlockSet; 6]; 6],
     exps: &[u8],
     codes: &[u16],
     out: &mut [u8],
@@ -101,7 +102,7 @@ fn write_sized(
 fn write_under(
     sheet: &[u8],
     track: Track,
-    strategies: [[u8; 6]; 6],
+    strategies: [[BlockSet; 6]; 6],
     exps: &[u8],
     codes: &[u16],
     out: &mut [u8],

@@ -1,5 +1,5 @@
 -- Laws of the ranges: what the tests show, in the form of specs/Legal, of the common part, of an end, and of a whole record.
-use Prim.Native.Nat.{ℕ, zero, suc, _-_, _%_, _≤_, _<_}
+use Prim.Native.Nat.{ℕ, _-_, _%_, _≤_, _<_}
 use mathlib.Core.Path.{_≡_, refl, sym, _∙_}
 use mathlib.Core.List.{List}
 use mathlib.Core.Bool.{Bool, true, false, not, _&&_, _||_, or-false, or-true, true≢false}
@@ -11,15 +11,13 @@ use lib.Dec.{ltb, leb, eqb}
 use borrow.Author.Tests.{leb-true, eqb-true, eq-eqb, ne-eqb}
 use Rattle.bits.specs.Tests.{both, either}
 use Rattle.sheet.specs.declared.common_part.Common.{Common}
-use Rattle.sheet.specs.declared.record.ExponentSet.the-variants.{Reuse}
-use Rattle.sheet.specs.declared.record.BlockSet.{BlockSet}
 use Rattle.sheet.specs.Grammar.{nsegOf, recordSize}
 use Rattle.sheet.specs.Common.{channelsOf, commonInRange}
-use Rattle.sheet.specs.Record.{channelOf, endOf, strategyOf, fsnroffstOf, fgaincodOf, offstAt, lenAt, baAt, segmentValue, setOf, strategyNumber, blockSet, blockOf, strategyRow, columnOf, channelRecord}
+use Rattle.sheet.specs.Record.{channelOf, endOf, strategyOf, fsnroffstOf, fgaincodOf, offstAt, lenAt, baAt, segmentValue, columnOf, channelRecord}
 use Rattle.sheet.specs.Ranges.{allBelow, lfeEnd, fullEnd, legalEnd, endInRange, strategyInRange, strategiesInRange, segmentInRange, nsegInRange, isLfe, recordInRange}
 use Rattle.sheet.specs.Legal.{LegalCommon, EndBounds, LegalEnd, LegalStrategies, LegalRecord}
 use Rattle.sheet.specs.Tests.{all-seven, all-below}
-use Rattle.sheet.specs.RecordLaws.{of-six, of-eight}
+use Rattle.sheet.specs.RecordLaws.{of-eight}
 
 pub legal-common : (common : Common) → commonInRange common ≡ true → LegalCommon common
 legal-common common h =
@@ -76,14 +74,6 @@ end-of-kind true end h =
     (rw k, lfe-end end k, λ _. eqb-true end 7 k, λ e. absurd (true≢false e))
 end-of-kind false end h = (rw h (or-true (lfeEnd end)), full-end end h .1, λ e. absurd (true≢false (sym e)), λ _. full-end end h .0)
 
--- a strategy's number, and its set, say the same
-pub number-of-set : (x : ℕ) → x ≤ 3 → strategyNumber (setOf x) ≡ x
-number-of-set zero h = refl
-number-of-set (suc zero) h = refl
-number-of-set (suc (suc zero)) h = refl
-number-of-set (suc (suc (suc zero))) h = refl
-number-of-set (suc (suc (suc (suc x)))) h = absurd (omega arith)
-
 pub record-tests : (common : Common) (r : List ℕ) → recordInRange common r ≡ true
     → (ltb (channelOf r) (channelsOf common) ≡ true) × (endInRange (isLfe common r) (endOf r) ≡ true) × (strategiesInRange (isLfe common r) r ≡ true)
     × (leb (fsnroffstOf r) 15 ≡ true) × (leb (fgaincodOf r) 7 ≡ true) × (nsegInRange (isLfe common r) (nsegOf r) ≡ true)
@@ -118,26 +108,8 @@ module _ (common : Common) (c : ℕ) (r : List ℕ) (whole : length r ≡ record
   strategy-lfe k block b =
       leb-true _ _ (rw (is-lfe k) at (both (leb (strategyOf r block) 3) (not (isLfe common r) || leb (strategyOf r block) 1) (strategy-test block b) .1))
 
-  pub legal-row : LegalStrategies common c (λ block. getD (strategyRow r) block 0)
-  legal-row =
-      record {
-        most = of-six (λ (x : ℕ). x ≤ 3) (strategyOf r) 0 (omega arith) strategy-most;
-        first = leb-true 1 (strategyOf r 0) (strategy-tests .1);
-        lfe = λ k. of-six (λ (x : ℕ). x ≤ 1) (strategyOf r) 0 (omega arith) (strategy-lfe k);
-      }
-
-  number-at : (block : ℕ) → block < 6 → strategyNumber (setOf (strategyOf r block)) ≡ strategyOf r block
-  number-at block b = number-of-set (strategyOf r block) (strategy-most block b)
-
-  legal-blocks : LegalStrategies common c (λ block. strategyNumber (blockOf (channelRecord r) block))
-  legal-blocks =
-      let sets : ℕ → BlockSet = λ block. blockSet (strategyOf r block) in
-      let reuse : BlockSet = record { set = Reuse } in
-      record {
-        most = of-six (λ (b : BlockSet). strategyNumber (b .set) ≤ 3) sets reuse (omega arith) (λ block b. omega (arith, number-at block b, strategy-most block b));
-        first = omega (arith, number-at 0 (omega arith), leb-true 1 (strategyOf r 0) (strategy-tests .1));
-        lfe = λ k. of-six (λ (b : BlockSet). strategyNumber (b .set) ≤ 1) sets reuse (omega arith) (λ block b. omega (arith, number-at block b, strategy-lfe k block b));
-      }
+  pub legal-strategies : LegalStrategies common c (strategyOf r)
+  legal-strategies = record { most = strategy-most; first = leb-true 1 (strategyOf r 0) (strategy-tests .1); lfe = strategy-lfe }
 
   nseg-tests : (leb (nsegOf r) 8 ≡ true) × ((not (isLfe common r) || eqb (nsegOf r) 0) ≡ true)
   nseg-tests = both (leb (nsegOf r) 8) (not (isLfe common r) || eqb (nsegOf r) 0) (record-tests common r held .5)
@@ -171,7 +143,6 @@ module _ (common : Common) (c : ℕ) (r : List ℕ) (whole : length r ≡ record
       record {
         channel = own;
         end = legal-end-of;
-        strategies = legal-blocks;
         fsnroffst = leb-true _ _ (record-tests common r held .3);
         fgaincod = leb-true _ _ (record-tests common r held .4);
         nseg = leb-true _ _ (nseg-tests .0);

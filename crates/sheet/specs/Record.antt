@@ -48,16 +48,6 @@ segmentValue r first i = getD r (first + 3 * i) 0
 abbrev pub setOf : ℕ → ExponentSet
 setOf x = cond (eqb x 0) Reuse (cond (eqb x 1) (New 1) (cond (eqb x 2) (New 2) (New 4)))
 
--- the span of a set, 0 for reuse, which has none
-abbrev pub spanOf : ExponentSet → ℕ
-spanOf Reuse = 0
-spanOf (New span) = span
-
--- the strategy's number of a set
-abbrev pub strategyNumber : ExponentSet → ℕ
-strategyNumber Reuse = 0
-strategyNumber (New span) = cond (eqb span 1) 1 (cond (eqb span 2) 2 3)
-
 -- ---- a record by value
 
 -- f 0, f 1, .. f 5, and f 0, f 1, .. f 7
@@ -67,10 +57,7 @@ sixOf f = f 0 ∷ f 1 ∷ f 2 ∷ f 3 ∷ f 4 ∷ f 5 ∷ []
 abbrev pub eightOf : {A : Type 0} → (ℕ → A) → List A
 eightOf f = f 0 ∷ f 1 ∷ f 2 ∷ f 3 ∷ f 4 ∷ f 5 ∷ f 6 ∷ f 7 ∷ []
 
--- the strategies of the six blocks, as numbers and as sets
-abbrev pub strategyRow : List ℕ → List ℕ
-strategyRow r = sixOf (strategyOf r)
-
+-- the sets of the six blocks
 abbrev pub blockSet : ℕ → BlockSet
 blockSet x = record { set = setOf x }
 
@@ -96,10 +83,6 @@ channelRecord r =
       ba = columnOf r baAt;
     }
 
--- the set of a block
-abbrev pub blockOf : ChannelRecord → ℕ → ExponentSet
-blockOf r block = getD (r .blocks) block (record { set = Reuse }) .set
-
 -- ---- the record of a channel: "one record per channel, in any order"
 
 -- those of a list of records that are of channel c
@@ -114,14 +97,14 @@ recordBytes s c = getD (ofChannel c (recordsOf s)) 0 []
 abbrev pub recordOf : List ℕ → ℕ → ChannelRecord
 recordOf s c = channelRecord (recordBytes s c)
 
--- ---- "the strategies of six blocks by six channels are fixed tables": channel by block; 0 for a channel that is not there
+-- ---- "the strategies of six blocks by six channels are fixed tables": channel by block; reuse for a channel that is not there
 
-abbrev pub strategiesOf : List ℕ → List (List ℕ)
-strategiesOf s = sixOf (λ c. strategyRow (recordBytes s c))
+abbrev pub strategiesOf : List ℕ → List (List BlockSet)
+strategiesOf s = sixOf (λ c. recordOf s c .blocks)
 
--- the strategy of a channel's block in such a table
-abbrev pub strategyIn : List (List ℕ) → ℕ → ℕ → ℕ
-strategyIn table c block = getD (getD table c []) block 0
+-- the set of a channel's block in such a table
+abbrev pub setIn : List (List BlockSet) → ℕ → ℕ → ExponentSet
+setIn table c block = getD (getD table c []) block (record { set = Reuse }) .set
 
 -- the ends of six channels
 abbrev pub endsOf : List ℕ → List ℕ

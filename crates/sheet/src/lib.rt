@@ -16,7 +16,6 @@ pub use ranges::legal_end;
 pub use record::BlockSet;
 pub use record::ChannelRecord;
 pub use record::ExponentSet;
-pub use record::block_span;
 pub use record::ends_of;
 pub use record::record_of;
 pub use record::strategies_of;

@@ -2,7 +2,6 @@
 ghost use mathlib.Core.Path.{_≡_};
 ghost use Prim.Native.Nat.{_<_};
 ghost use Rattle.sheet.specs.Record.{
-  blockOf,
   blockSet,
   blocksOf,
   columnOf,
@@ -11,10 +10,8 @@ ghost use Rattle.sheet.specs.Record.{
   endsOf,
   recordBytes,
   recordOf,
-  spanOf,
   strategiesOf,
   strategyOf,
-  strategyRow,
 };
 use crate::read::HEAD_SIZE;
 use crate::read::byte_at;
@@ -55,27 +52,6 @@ fn block_set(strategy: u8) -> BlockSet
         _ => ExponentSet::New(4),
     };
     BlockSet { set: set }
-}
-
-// The span of a new set, 0 for reuse.
-pub fn span_of(block: BlockSet) -> u8
-    ensures { λ r. ⌜ r ≡ spanOf (block .set) ⌝ }
-{
-    let set = block.set;
-    match set {
-        ExponentSet::Reuse => 0,
-        ExponentSet::New(span) => span,
-    }
-}
-
-// The span of a block of a channel, 0 for reuse.
-pub fn block_span(record: ChannelRecord, block: usize) -> u8
-    requires { ⌜ block < 6 ⌝ }
-    ensures { λ r. ⌜ r ≡ spanOf (blockOf «record» block) ⌝ }
-{
-    let blocks = record.blocks;
-    let chosen = blocks[block];
-    span_of(chosen)
 }
 
 fn block_at(bytes: &[u8], block: usize) -> BlockSet
@@ -158,32 +134,24 @@ pub fn record_of(sheet: &[u8], channel: usize) -> ChannelRecord
     channel_record(record_bytes(sheet, channel))
 }
 
-// The strategies of a channel's six blocks.
-fn strategy_row(sheet: &[u8], channel: usize) -> [u8; 6]
-    ensures { λ r. ⌜ r ≡ strategyRow (recordBytes (now (sheet .entry)) channel) ⌝ }
+// What a channel's record holds for its six blocks.
+fn sets_of(sheet: &[u8], channel: usize) -> [BlockSet; 6]
+    ensures { λ r. ⌜ r ≡ recordOf (now (sheet .entry)) channel .blocks ⌝ }
 {
-    let bytes = record_bytes(sheet, channel);
-    [
-        byte_at(bytes, 2),
-        byte_at(bytes, 3),
-        byte_at(bytes, 4),
-        byte_at(bytes, 5),
-        byte_at(bytes, 6),
-        byte_at(bytes, 7),
-    ]
+    blocks_of(record_bytes(sheet, channel))
 }
 
-// The strategies of six channels by six blocks; 0 for a channel that is not there.
-pub fn strategies_of(sheet: &[u8]) -> [[u8; 6]; 6]
+// The strategies of six channels by six blocks; reuse for a channel that is not there.
+pub fn strategies_of(sheet: &[u8]) -> [[BlockSet; 6]; 6]
     ensures { λ r. ⌜ r ≡ strategiesOf (now (sheet .entry)) ⌝ }
 {
     [
-        strategy_row(sheet, 0),
-        strategy_row(sheet, 1),
-        strategy_row(sheet, 2),
-        strategy_row(sheet, 3),
-        strategy_row(sheet, 4),
-        strategy_row(sheet, 5),
+        sets_of(sheet, 0),
+        sets_of(sheet, 1),
+        sets_of(sheet, 2),
+        sets_of(sheet, 3),
+        sets_of(sheet, 4),
+        sets_of(sheet, 5),
     ]
 }
 

@@ -2,8 +2,8 @@
 use mathlib.Core.Path.{_≡_, refl, ap₂, _∙_}
 use Prim.Native.Nat.{_-_, _*_, _≤_}
 use Rattle.mantissas.specs.Count.{sum}
-use Rattle.frame.specs.Layout.{channels, endAt, strategyAt}
-use Rattle.frame.specs.Under.{held-channels, held-end, held-strategy, held-legal}
+use Rattle.frame.specs.Layout.{channels, endAt, setAt}
+use Rattle.frame.specs.Under.{held-channels, held-end, held-set, held-legal, held-known}
 use Rattle.frame_rows.specs.RowsLaws.{held-most}
 use Rattle.frame_body.specs.Counts.{setCount, setsCount}
 use Rattle.frame_body.proofs.Counting.{sum-turn}
@@ -13,7 +13,7 @@ use Rattle.frame_body.proofs.count.count_sets.Statement.{statement}
 use Rattle.frame_body.proofs.count.count_sets.Tie as tie
 
 abbrev Inv-loop : tie.InvT-loop
-Inv-loop sheet strategies b track n₀ c₀ c-end n c = (c ≤ track .channels) × (n ≤ 592 * c) × (n ≡ sum (λ j. setCount (strategyAt sheet b j) (endAt sheet j)) c)
+Inv-loop sheet strategies b track n₀ c₀ c-end n c = (c ≤ track .channels) × (n ≤ 592 * c) × (n ≡ sum (λ j. setCount (setAt sheet b j) (endAt sheet j)) c)
 
 abbrev μ-loop : tie.MeasureT-loop
 μ-loop sheet strategies b track n₀ c₀ c-end n c = track .channels - c
@@ -22,8 +22,8 @@ loop-holds : tie.Need-loop-holds Inv-loop μ-loop
 unfolding sum
 loop-holds c = (omega arith, omega arith, refl)
 
-strategy-at-requires : tie.Need-strategy-at-requires Inv-loop μ-loop
-strategy-at-requires c κs = (c .before .before .before .pre .1, omega (arith, held-most (c .before .before .before .pre .0)))
+set-at-requires : tie.Need-set-at-requires Inv-loop μ-loop
+set-at-requires c κs = (c .before .before .before .pre .1, omega (arith, held-most (c .before .before .before .pre .0)))
 
 mul-end : tie.Need-mul-end Inv-loop μ-loop
 mul-end c = omega (arith, held-most (c .before .before .before .before .pre .0))
@@ -32,7 +32,9 @@ element-copy-out-end : tie.Need-element-copy-out-end Inv-loop μ-loop
 element-copy-out-end c = omega (arith, held-most (c .before .before .before .before .pre .0))
 
 count-set-requires : tie.Need-count-set-requires Inv-loop μ-loop
-count-set-requires c κs = held-legal (c .before .before .before .before .before .pre .0) _ (c .before .before .loop-test .taken)
+count-set-requires c κs =
+    let u = c .before .before .before .before .before .pre .0 in
+    (held-legal u _ (c .before .before .loop-test .taken), held-known u _ _ (c .before .set-at .ensures))
 
 add-n : tie.Need-add-n Inv-loop μ-loop
 add-n c = omega (arith, held-most (c .before .before .before .before .before .before .pre .0), c .count-set .ensures .1)
@@ -43,7 +45,7 @@ add-c c = omega (arith, held-most (c .before .before .before .before .before .be
 loop-again : tie.Need-loop-again Inv-loop μ-loop
 loop-again c =
     let u = c .before .before .before .before .before .before .pre .0 in
-    let q = c .count-set .ensures .0 ∙ ap₂ setCount (c .before .before .strategy-at .ensures ∙ held-strategy u _ _) (held-end u _) in
+    let q = c .count-set .ensures .0 ∙ ap₂ setCount (c .before .before .set-at .ensures ∙ held-set u _ _) (held-end u _) in
     (omega arith, omega (arith, c .count-set .ensures .1), sum-turn _ _ _ _ (c .before .before .before .before .loop .inv .2) q)
 
 returns : tie.Need-returns Inv-loop μ-loop
@@ -59,7 +61,7 @@ count-sets-spec =
     Inv-loop
     μ-loop
     loop-holds
-    strategy-at-requires
+    set-at-requires
     mul-end
     element-copy-out-end
     count-set-requires

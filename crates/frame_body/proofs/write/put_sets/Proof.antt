@@ -7,9 +7,9 @@ use lib.ListN.{length}
 use Rattle.bits.specs.Parts.{joined, piece}
 use Rattle.bits.specs.Write.{Put}
 use Rattle.bits.specs.WriteLaws.{turn-start, turn-ready, turn-put}
-use Rattle.frame.specs.Layout.{channels, endAt, strategyAt}
+use Rattle.frame.specs.Layout.{channels, endAt, setAt}
 use Rattle.frame.specs.Body.{setBits, setsBits}
-use Rattle.frame.specs.Under.{held-channels, held-end, held-strategy, held-below, held-channel, held-legal}
+use Rattle.frame.specs.Under.{held-channels, held-end, held-set, held-below, held-channel, held-legal, held-known}
 use Rattle.frame_rows.specs.RowsLaws.{held-most, part-inside}
 use Rattle.frame_rows.specs.Walks.{lent-is, lent-long}
 use native.Mathlib.Omega.{arith}
@@ -18,7 +18,7 @@ use Rattle.frame_body.proofs.write.put_sets.Statement.{statement}
 use Rattle.frame_body.proofs.write.put_sets.Tie as tie
 
 abbrev Inv-loop : tie.InvT-loop
-Inv-loop out₀ sheet strategies b row track w₀ c₀ c-end out w c = (c ≤ track .channels) × (length out ≡ length out₀) × Put out₀ w₀ (joined c (λ j. setBits (strategyAt sheet b j) (endAt sheet j) (piece 256 j row))) out w
+Inv-loop out₀ sheet strategies b row track w₀ c₀ c-end out w c = (c ≤ track .channels) × (length out ≡ length out₀) × Put out₀ w₀ (joined c (λ j. setBits (setAt sheet b j) (endAt sheet j) (piece 256 j row))) out w
 
 abbrev μ-loop : tie.MeasureT-loop
 μ-loop out₀ sheet strategies b row track w₀ c₀ c-end out w c = track .channels - c
@@ -26,8 +26,8 @@ abbrev μ-loop : tie.MeasureT-loop
 loop-holds : tie.Need-loop-holds Inv-loop μ-loop
 loop-holds c = (omega arith, refl, turn-start _ _ _ (omega arith) (omega arith))
 
-strategy-at-requires : tie.Need-strategy-at-requires Inv-loop μ-loop
-strategy-at-requires c κs = (c .before .before .before .before .before .pre .1 .0 .0, omega (arith, held-most (c .before .before .before .before .before .pre .0)))
+set-at-requires : tie.Need-set-at-requires Inv-loop μ-loop
+set-at-requires c κs = (c .before .before .before .before .before .pre .1 .0 .0, omega (arith, held-most (c .before .before .before .before .before .pre .0)))
 
 mul-end : tie.Need-mul-end Inv-loop μ-loop
 mul-end c = omega (arith, held-most (c .before .before .before .before .before .before .pre .0))
@@ -55,9 +55,9 @@ put-part-requires c κs =
     let inside = c .before .before .before .before .loop-test .taken in
     let long = lent-long 256 n i inside (g .row .now) (p .1 .0 .1) in
     let e = lent-is 256 n i inside (g .row .now) in
-    let s = c .before .before .before .strategy-at .ensures ∙ held-strategy u (g .b) i in
-    let sets : ℕ → List Bool = λ j. setBits (strategyAt (g .sheet .now) (g .b) j) (endAt (g .sheet .now) j) (piece 256 j (g .row .now)) in (
-      (held-legal u i inside, omega (arith, long, held-channel u i inside .end-most, held-end u i)),
+    let s = c .before .before .before .set-at .ensures ∙ held-set u (g .b) i in
+    let sets : ℕ → List Bool = λ j. setBits (setAt (g .sheet .now) (g .b) j) (endAt (g .sheet .now) j) (piece 256 j (g .row .now)) in (
+      (held-legal u i inside, omega (arith, long, held-channel u i inside .end-most, held-end u i), held-known u (g .b) i (c .before .before .before .set-at .ensures)),
       (
         rw (e, s, held-end u i) (p .1 .1 .0 .part i (held-below u i inside)),
         rw (e, s, held-end u i) (turn-ready _ sets _ _ (held-below u i inside) (c .before .before .before .before .before .loop .inv .2) (p .1 .1 .1) (c .before .before .before .before .before .loop .inv .1)),
@@ -73,7 +73,7 @@ loop-again c =
     let u = c .before .before .before .before .before .before .before .before .before .before .before .before .pre .0 in
     let i = c .before .before .before .before .before .before .before .before .loop .c in
     let e = lent-is 256 (g .t4 .channels) i (c .before .before .before .before .before .before .before .loop-test .taken) (g .row .now) in
-    let s = c .before .before .before .before .before .before .strategy-at .ensures ∙ held-strategy u (g .b) i in
+    let s = c .before .before .before .before .before .before .set-at .ensures ∙ held-set u (g .b) i in
     (omega arith, c .before .before .put-part .kept .0 ∙ c .before .before .before .before .before .before .before .before .loop .inv .1, turn-put _ _ (c .before .before .before .before .before .before .before .before .loop .inv .2) (rw (e, s, held-end u i) at (c .before .before .put-part .ensures)))
 
 same-length : tie.Need-same-length Inv-loop μ-loop
@@ -92,7 +92,7 @@ put-sets-spec =
     Inv-loop
     μ-loop
     loop-holds
-    strategy-at-requires
+    set-at-requires
     mul-end
     element-copy-out-end
     mul-a

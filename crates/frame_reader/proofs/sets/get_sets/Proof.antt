@@ -8,7 +8,7 @@ use Rattle.bits.specs.Field.{bitsOf}
 use Rattle.bits.specs.FieldLaws.{length-bitsOf}
 use Rattle.bits.specs.PartsLaws.{within}
 use Rattle.frame.specs.Layout.{channels}
-use Rattle.frame.specs.Under.{channel-known, held-channels, held-end, held-strategy}
+use Rattle.frame.specs.Under.{channel-known, known-set, held-channels, held-end, held-set}
 use Rattle.frame_rows.specs.RowsLaws.{held-most}
 use Rattle.frame_reader.proofs.SetsTurns.{SetsRead, Turn, sets-start, part-size, row-size, sets-fault, sets-more, sets-end}
 use Rattle.frame_reader.proofs.sets.get_sets.Statement.{statement}
@@ -25,14 +25,14 @@ row-wide : (c : tie.Start Inv-loop μ-loop) → length (c .args .row .now) ≡ 2
 row-wide c = c .pre .1 .0 .1 ∙ ap (λ n. 256 * n) (held-channels (c .pre .0))
 
 -- a channel's turn
-turn : (c : tie.After-strategy-at Inv-loop μ-loop)
-    → Turn (c .before .before .before .before .before .before .args .sheet .now) (c .before .before .before .before .before .before .args .b) (c .before .before .loop .c) (c .strategy-at .result)
+turn : (c : tie.After-set-at Inv-loop μ-loop)
+    → Turn (c .before .before .before .before .before .before .args .sheet .now) (c .before .before .before .before .before .before .args .b) (c .before .before .loop .c) (c .set-at .result)
     (getD (c .before .before .before .before .before .before .args .t2 .ends) (c .before .before .loop .c) 0) (256 * c .before .before .loop .c) (256 * c .before .before .loop .c + 256 - 256 * c .before .before .loop .c)
 turn c =
     let u = c .before .before .before .before .before .before .pre .0 in
     record {
       there = omega (arith, held-channels u, c .before .loop-test .taken);
-      strategy-is = c .strategy-at .ensures ∙ held-strategy u (c .before .before .before .before .before .before .args .b) (c .before .before .loop .c);
+      set-is = c .set-at .ensures ∙ held-set u (c .before .before .before .before .before .before .args .b) (c .before .before .loop .c);
       end-is = held-end u (c .before .before .loop .c);
       start = refl;
       wide = omega arith;
@@ -45,8 +45,8 @@ part-left c = c .get-part .kept .1 .1 .1 .1 .0 ∙ part-size (c .before .before 
 loop-holds : tie.Need-loop-holds Inv-loop μ-loop
 loop-holds c = sets-start _ _ _ _ _ (row-wide (c .before .before .before)) (rw length-bitsOf (c .before .before .before .pre .1 .1 .0))
 
-strategy-at-requires : tie.Need-strategy-at-requires Inv-loop μ-loop
-strategy-at-requires c κs = (c .before .before .before .before .before .pre .1 .0 .0, omega (arith, held-most (c .before .before .before .before .before .pre .0), c .loop-test .taken))
+set-at-requires : tie.Need-set-at-requires Inv-loop μ-loop
+set-at-requires c κs = (c .before .before .before .before .before .pre .1 .0 .0, omega (arith, held-most (c .before .before .before .before .before .pre .0), c .loop-test .taken))
 
 element-copy-out-end : tie.Need-element-copy-out-end Inv-loop μ-loop
 element-copy-out-end c = omega (arith, held-most (c .before .before .before .before .before .before .pre .0), c .before .loop-test .taken)
@@ -59,7 +59,7 @@ get-part-requires c κs =
     let t = turn (c .before .before) in
     let known = channel-known (c .before .before .before .before .before .before .before .before .args .sheet .now) (c .before .before .before .before .before .before .before .before .pre .0 .accepted) (c .before .before .before .before .loop .c) (t .there) in (
       (rw length-bitsOf at (c .before .before .before .before .loop .inv .inside), omega (arith, c .before .before .before .before .loop .inv .near, c .before .before .before .before .before .before .before .before .pre .1 .1 .1, held-most (c .before .before .before .before .before .before .before .before .pre .0), c .before .before .before .loop-test .taken)),
-      (rw (t .end-is) (known .legal), omega (arith, t .end-is, known .end-most), part-size (c .before .before .before .before .loop .inv) t),
+      (rw (t .end-is) (known .legal), omega (arith, t .end-is, known .end-most), part-size (c .before .before .before .before .loop .inv) t, rw (t .set-is) (known-set _ _ _)),
     )
 
 same-length : tie.Need-same-length Inv-loop μ-loop
@@ -93,7 +93,7 @@ get-sets-spec =
     Inv-loop
     μ-loop
     loop-holds
-    strategy-at-requires
+    set-at-requires
     (λ c. search needs)
     element-copy-out-end
     (λ c. search needs)

@@ -8,7 +8,7 @@ use borrow.Author.Needs.{needs}
 use Rattle.bits.specs.Parts.{joined, piece}
 use Rattle.bits.specs.PartsLaws.{fill-start, fill-end}
 use Rattle.frame.specs.Body.{bapPart, bapRow}
-use Rattle.frame.specs.Under.{held-channels, held-end, held-strategy, held-below}
+use Rattle.frame.specs.Under.{held-channels, held-end, held-set, held-below}
 use Rattle.frame_rows.specs.RowsLaws.{part-inside}
 use Rattle.frame_rows.specs.Walks.{lent-is, lent-long, lent-old, turn-length, turn-more, turn-rest}
 use Rattle.frame_rows.proofs.rows.allocate_row.Statement.{statement}
@@ -23,8 +23,8 @@ abbrev μ-loop : tie.MeasureT-loop
 loop-holds : tie.Need-loop-holds Inv-loop μ-loop
 loop-holds c = (search needs, refl, fill-start 256 0 _ [] refl, refl)
 
-strategy-at-requires : tie.Need-strategy-at-requires Inv-loop μ-loop
-strategy-at-requires c κs = (c .before .before .before .before .before .pre .1 .0 .0, omega (arith, part-inside (c .before .before .before .before .before .pre .0) _ (c .loop-test .taken)))
+set-at-requires : tie.Need-set-at-requires Inv-loop μ-loop
+set-at-requires c κs = (c .before .before .before .before .before .pre .1 .0 .0, omega (arith, part-inside (c .before .before .before .before .before .pre .0) _ (c .loop-test .taken)))
 
 element-copy-out-end : tie.Need-element-copy-out-end Inv-loop μ-loop
 element-copy-out-end c = omega (arith, part-inside (c .before .before .before .before .before .before .pre .0) _ (c .before .loop-test .taken))
@@ -52,7 +52,7 @@ allocate-part-requires c κs =
     let there = held-below u i inside in
     let e = lent-is 256 n i inside (g .row .now) in
     let same = lent-old 256 n i inside (c .before .before .before .before .before .loop .bap) (g .bap .now) (c .before .before .before .before .before .loop .inv .3) in
-    let new = sym (held-strategy u (g .b) i) ∙ sym (c .before .before .before .strategy-at .ensures) in (
+    let new = sym (held-set u (g .b) i) ∙ sym (c .before .before .before .set-at .ensures) in (
       u .accepted,
       (
         (held-end u i, lent-long 256 n i inside (g .row .now) (p .1 .0 .1), lent-long 256 n i inside (c .before .before .before .before .before .loop .bap) (c .before .before .before .before .before .loop .inv .1 ∙ p .1 .0 .2)),
@@ -94,7 +94,7 @@ allocate-row-spec =
     Inv-loop
     μ-loop
     loop-holds
-    strategy-at-requires
+    set-at-requires
     (λ c. search needs)
     element-copy-out-end
     mul-a

@@ -38,23 +38,23 @@ part-fill-start c = held (c .before .before .before .before .before .before .bef
 part-fill-end : tie.Need-part-fill-end
 part-fill-end c =
     let s = c .before .before .before .before .before .before .before .before in
-    let y = c .before .before .run-exponents .last .1 .1 .1 .1 .1 .1 .0 in
-    let n : length y ≡ end s = c .before .before .run-exponents .kept .1 .1 .1 .1 .1 .1 .0 ∙ front s in
+    let y = c .before .before .run-exponents .last .1 .1 .1 .1 .1 .1 .1 .0 in
+    let n : length y ≡ end s = c .before .before .run-exponents .kept .1 .1 .1 .1 .1 .1 .1 .0 ∙ front s in
     omega (arith, front-long (end s) (s .args .part .now) y (s .pre .1 .1 .2) (held s) n)
 
 same-length : tie.Need-same-length
 same-length c =
     let s = c .before .before .before .before .before .before .before .before .before .before .before .before in
-    let y = c .before .before .before .before .before .before .run-exponents .last .1 .1 .1 .1 .1 .1 .0 in
-    let n : length y ≡ end s = c .before .before .before .before .before .before .run-exponents .kept .1 .1 .1 .1 .1 .1 .0 ∙ front s in
+    let y = c .before .before .before .before .before .before .run-exponents .last .1 .1 .1 .1 .1 .1 .1 .0 in
+    let n : length y ≡ end s = c .before .before .before .before .before .before .run-exponents .kept .1 .1 .1 .1 .1 .1 .1 .0 ∙ front s in
     two-parts-long (end s) (s .args .part .now) y (s .pre .1 .1 .2) (held s) n _ (c .before .before .fill .ensures) ∙ sym (s .pre .1 .1 .2)
 
 returns : tie.Need-returns
 unfolding runPart
 returns c =
     let s = c .before .before .before .before .before .before .before .before .before .before .before .before in
-    let y = c .before .before .before .before .before .before .run-exponents .last .1 .1 .1 .1 .1 .1 .0 in
-    let n : length y ≡ end s = c .before .before .before .before .before .before .run-exponents .kept .1 .1 .1 .1 .1 .1 .0 ∙ front s in
+    let y = c .before .before .before .before .before .before .run-exponents .last .1 .1 .1 .1 .1 .1 .1 .0 in
+    let n : length y ≡ end s = c .before .before .before .before .before .before .run-exponents .kept .1 .1 .1 .1 .1 .1 .1 .0 ∙ front s in
     two-parts (end s) (s .args .part .now) y (s .pre .1 .1 .2) (held s) n _ (c .before .before .fill .ensures) ∙ rw (c .before .before .before .before .before .before .run-exponents .ensures, held-end (s .pre .0) (s .args .c))
 
 pub begin-run-spec : {M : Type 1} → statement M

@@ -6,7 +6,7 @@ use native.Mathlib.Omega.{arith}
 use lib.Ieee.{Float}
 use lib.ListN.{length}
 use borrow.Author.Needs.{needs}
-use Rattle.frame.specs.Under.{held-channels, held-strategy}
+use Rattle.frame.specs.Under.{held-channels, held-set}
 use Rattle.frame_rows.specs.RowsLaws.{held-most}
 use Rattle.frame_runs.specs.FiniteLaws.{finite-below}
 use Rattle.frame_runs.specs.Runs.{leastOf, exponentsOf, leastFrom}
@@ -23,47 +23,47 @@ abbrev μ-loop : tie.MeasureT-loop
 loop-holds : tie.Need-loop-holds Inv-loop μ-loop
 loop-holds c = (omega arith, refl, refl)
 
-strategy-at-requires : tie.Need-strategy-at-requires Inv-loop μ-loop
-strategy-at-requires c κs = (omega (arith, c .loop-test .taken), omega (arith, held-most (c .before .before .before .before .before .pre .0), held-channels (c .before .before .before .before .before .pre .0)))
+set-at-requires : tie.Need-set-at-requires Inv-loop μ-loop
+set-at-requires c κs = (omega (arith, c .loop-test .taken), omega (arith, held-most (c .before .before .before .before .before .pre .0), held-channels (c .before .before .before .before .before .pre .0)))
 
 same-length : tie.Need-same-length Inv-loop μ-loop
-same-length c = c .before .before .before .loop .inv .1
+same-length c = c .before .before .before .before .loop .inv .1
 
 returns : tie.Need-returns Inv-loop μ-loop
-returns c = run-stops _ _ _ _ _ (λ z. c .if1 .taken (c .before .strategy-at .ensures ∙ held-strategy (c .before .before .before .before .before .before .before .pre .0) _ _ ∙ z)) (omega (arith, c .before .before .loop-test .taken)) ∙ c .before .before .before .loop .inv .2
+returns c = run-stops _ _ _ _ _ _ (sym (held-set (c .before .before .before .before .before .before .before .before .pre .0) _ _) ∙ sym (c .before .before .set-at .ensures) ∙ c .enum-told .given .1) (omega (arith, c .before .before .before .loop-test .taken)) ∙ c .before .before .before .before .loop .inv .2
 
 part-start-requires : tie.Need-part-start-requires Inv-loop μ-loop
-part-start-requires c κs = (held-most (c .before .before .before .before .before .before .before .pre .0), omega (arith, c .before .before .loop-test .taken), rw (held-channels (c .before .before .before .before .before .before .before .pre .0)) (c .before .before .before .before .before .before .before .pre .1 .1 .0))
+part-start-requires c κs = (held-most (c .before .before .before .before .before .before .before .before .pre .0), omega (arith, c .before .before .before .loop-test .taken), rw (held-channels (c .before .before .before .before .before .before .before .before .pre .0)) (c .before .before .before .before .before .before .before .before .pre .1 .1 .0))
 
 element-copy-out-e : tie.Need-element-copy-out-e Inv-loop μ-loop
-element-copy-out-e c = omega (arith, held-most (c .before .before .before .before .before .before .before .before .pre .0), held-channels (c .before .before .before .before .before .before .before .before .pre .0))
+element-copy-out-e c = omega (arith, held-most (c .before .before .before .before .before .before .before .before .before .pre .0), held-channels (c .before .before .before .before .before .before .before .before .before .pre .0))
 
 add-e : tie.Need-add-e Inv-loop μ-loop
-add-e c = omega (arith, held-most (c .before .before .before .before .before .before .before .before .before .pre .0), held-channels (c .before .before .before .before .before .before .before .before .before .pre .0), below-fits (c .before .before .before .before .before .before .before .before .before .pre .0) _ _ _ (c .before .part-start .ensures) (c .before .before .before .before .before .before .before .before .before .pre .1 .1 .0) _ (c .before .before .before .before .before .before .before .before .before .pre .1 .0 .whole))
+add-e c = omega (arith, held-most (c .before .before .before .before .before .before .before .before .before .before .pre .0), held-channels (c .before .before .before .before .before .before .before .before .before .before .pre .0), below-fits (c .before .before .before .before .before .before .before .before .before .before .pre .0) _ _ _ (c .before .part-start .ensures) (c .before .before .before .before .before .before .before .before .before .before .pre .1 .1 .0) _ (c .before .before .before .before .before .before .before .before .before .before .pre .1 .0 .whole))
 
 mul-lower-part : tie.Need-mul-lower-part Inv-loop μ-loop
-mul-lower-part c = omega (arith, held-most (c .before .before .before .before .before .before .before .before .before .pre .0), c .before .part-start .ensures .within)
+mul-lower-part c = omega (arith, held-most (c .before .before .before .before .before .before .before .before .before .before .pre .0), c .before .part-start .ensures .within)
 
 part-lower-part-end : tie.Need-part-lower-part-end Inv-loop μ-loop
-part-lower-part-end c = below-fits (c .before .before .before .before .before .before .before .before .before .pre .0) _ _ _ (c .before .part-start .ensures) (c .before .before .before .before .before .before .before .before .before .pre .1 .1 .0) _ (c .before .before .before .before .before .before .before .before .before .pre .1 .0 .whole)
+part-lower-part-end c = below-fits (c .before .before .before .before .before .before .before .before .before .before .pre .0) _ _ _ (c .before .part-start .ensures) (c .before .before .before .before .before .before .before .before .before .before .pre .1 .1 .0) _ (c .before .before .before .before .before .before .before .before .before .before .pre .1 .0 .whole)
 
 lower-part-requires : tie.Need-lower-part-requires Inv-loop μ-loop
 lower-part-requires c κs =
-    let u = c .before .before .before .before .before .before .before .before .before .before .before .pre .0 in
-    let lent = below-lent u _ _ _ (c .before .before .before .part-start .ensures) (c .before .before .before .before .before .before .before .before .before .before .before .pre .1 .1 .0) (c .before .before .before .before .before .before .before .before .before .before .before .args .coeffs .now) in
-    let long = ap length lent ∙ whole-below (c .before .before .before .before .before .before .before .before .before .before .before .args .sheet .now) (c .before .before .before .before .before .before .before .loop .b) (c .before .before .before .before .before .before .before .before .before .before .before .args .c) (c .before .before .before .before .before .before .before .before .before .before .before .args .coeffs .now) (u .accepted) (omega (arith, c .before .before .before .before .before .before .loop-test .taken)) (c .before .before .before .before .before .before .before .before .before .before .before .pre .1 .1 .0) (c .before .before .before .before .before .before .before .before .before .before .before .pre .1 .0 .whole) in
-    (rw lent (finite-below _ _ _ _ (c .before .before .before .before .before .before .before .before .before .before .before .pre .1 .0 .finite) (omega (arith, c .before .before .before .before .before .before .loop-test .taken)) (c .before .before .before .before .before .before .before .before .before .before .before .pre .1 .1 .0)), c .before .before .before .before .before .before .before .loop .inv .1 ∙ c .before .before .before .before .before .before .before .before .before .before .before .pre .1 .1 .2 ∙ sym long)
+    let u = c .before .before .before .before .before .before .before .before .before .before .before .before .pre .0 in
+    let lent = below-lent u _ _ _ (c .before .before .before .part-start .ensures) (c .before .before .before .before .before .before .before .before .before .before .before .before .pre .1 .1 .0) (c .before .before .before .before .before .before .before .before .before .before .before .before .args .coeffs .now) in
+    let long = ap length lent ∙ whole-below (c .before .before .before .before .before .before .before .before .before .before .before .before .args .sheet .now) (c .before .before .before .before .before .before .before .before .loop .b) (c .before .before .before .before .before .before .before .before .before .before .before .before .args .c) (c .before .before .before .before .before .before .before .before .before .before .before .before .args .coeffs .now) (u .accepted) (omega (arith, c .before .before .before .before .before .before .before .loop-test .taken)) (c .before .before .before .before .before .before .before .before .before .before .before .before .pre .1 .1 .0) (c .before .before .before .before .before .before .before .before .before .before .before .before .pre .1 .0 .whole) in
+    (rw lent (finite-below _ _ _ _ (c .before .before .before .before .before .before .before .before .before .before .before .before .pre .1 .0 .finite) (omega (arith, c .before .before .before .before .before .before .before .loop-test .taken)) (c .before .before .before .before .before .before .before .before .before .before .before .before .pre .1 .1 .0)), c .before .before .before .before .before .before .before .before .loop .inv .1 ∙ c .before .before .before .before .before .before .before .before .before .before .before .before .pre .1 .1 .2 ∙ sym long)
 
 loop-again : tie.Need-loop-again Inv-loop μ-loop
 loop-again c =
-    let u = c .before .before .before .before .before .before .before .before .before .before .before .before .before .before .pre .0 in
-    let lent = below-lent u _ _ _ (c .before .before .before .before .before .before .part-start .ensures) (c .before .before .before .before .before .before .before .before .before .before .before .before .before .before .pre .1 .1 .0) (c .before .before .before .before .before .before .before .before .before .before .before .before .before .before .args .coeffs .now) in
-    let reuse = sym (held-strategy u (c .before .before .before .before .before .before .before .before .before .before .loop .b) (c .before .before .before .before .before .before .before .before .before .before .before .before .before .before .args .c)) ∙ sym (c .before .before .before .before .before .before .before .before .strategy-at .ensures) ∙ c .before .before .before .before .before .before .before .if1 .left in
-    let lowered = c .before .before .lower-part .ensures ∙ ap (λ (xs : List Float). leastOf (c .before .before .before .before .before .before .before .before .before .before .loop .part) (exponentsOf xs)) lent in (
+    let u = c .before .before .before .before .before .before .before .before .before .before .before .before .before .before .before .pre .0 in
+    let lent = below-lent u _ _ _ (c .before .before .before .before .before .before .part-start .ensures) (c .before .before .before .before .before .before .before .before .before .before .before .before .before .before .before .pre .1 .1 .0) (c .before .before .before .before .before .before .before .before .before .before .before .before .before .before .before .args .coeffs .now) in
+    let reuse = sym (held-set u (c .before .before .before .before .before .before .before .before .before .before .before .loop .b) (c .before .before .before .before .before .before .before .before .before .before .before .before .before .before .before .args .c)) ∙ sym (c .before .before .before .before .before .before .before .before .before .set-at .ensures) ∙ c .before .before .before .before .before .before .before .enum-told2 .given .1 in
+    let lowered = c .before .before .lower-part .ensures ∙ ap (λ (xs : List Float). leastOf (c .before .before .before .before .before .before .before .before .before .before .before .loop .part) (exponentsOf xs)) lent in (
       omega arith,
-      c .before .before .lower-part .kept .1 .0 ∙ c .before .before .before .before .before .before .before .before .before .before .loop .inv .1,
-      ap (λ (l : List ℕ). leastFrom (c .before .before .before .before .before .before .before .before .before .before .before .before .before .before .args .sheet .now) (c .before .before .before .before .before .before .before .before .before .before .before .before .before .before .args .coeffs .now) (c .before .before .before .before .before .before .before .before .before .before .before .before .before .before .args .c) (6 - (c .before .before .before .before .before .before .before .before .before .before .loop .b + 1)) (c .before .before .before .before .before .before .before .before .before .before .loop .b + 1) l) lowered
-          ∙ sym (run-on (c .before .before .before .before .before .before .before .before .before .before .before .before .before .before .args .sheet .now) (c .before .before .before .before .before .before .before .before .before .before .before .before .before .before .args .coeffs .now) (c .before .before .before .before .before .before .before .before .before .before .before .before .before .before .args .c) (c .before .before .before .before .before .before .before .before .before .before .loop .b) (c .before .before .before .before .before .before .before .before .before .before .loop .part) reuse (omega (arith, c .before .before .before .before .before .before .before .before .before .loop-test .taken))) ∙ c .before .before .before .before .before .before .before .before .before .before .loop .inv .2,
+      c .before .before .lower-part .kept .1 .0 ∙ c .before .before .before .before .before .before .before .before .before .before .before .loop .inv .1,
+      ap (λ (l : List ℕ). leastFrom (c .before .before .before .before .before .before .before .before .before .before .before .before .before .before .before .args .sheet .now) (c .before .before .before .before .before .before .before .before .before .before .before .before .before .before .before .args .coeffs .now) (c .before .before .before .before .before .before .before .before .before .before .before .before .before .before .before .args .c) (6 - (c .before .before .before .before .before .before .before .before .before .before .before .loop .b + 1)) (c .before .before .before .before .before .before .before .before .before .before .before .loop .b + 1) l) lowered
+          ∙ sym (run-on (c .before .before .before .before .before .before .before .before .before .before .before .before .before .before .before .args .sheet .now) (c .before .before .before .before .before .before .before .before .before .before .before .before .before .before .before .args .coeffs .now) (c .before .before .before .before .before .before .before .before .before .before .before .before .before .before .before .args .c) (c .before .before .before .before .before .before .before .before .before .before .before .loop .b) (c .before .before .before .before .before .before .before .before .before .before .before .loop .part) reuse (omega (arith, c .before .before .before .before .before .before .before .before .before .before .loop-test .taken))) ∙ c .before .before .before .before .before .before .before .before .before .before .before .loop .inv .2,
     )
 
 same-length-2 : tie.Need-same-length-2 Inv-loop μ-loop
@@ -79,9 +79,11 @@ lower-by-reuse-spec =
     Inv-loop
     μ-loop
     loop-holds
-    strategy-at-requires
+    set-at-requires
+    (λ c. search needs)
     same-length
     returns
+    (λ c. search needs)
     part-start-requires
     (λ c. search needs)
     element-copy-out-e

@@ -1,10 +1,10 @@
--- A reuse block is compared, any other must be shaped.
-use mathlib.Core.Path.{_∙_}
+-- A reuse block is compared, a new set must be shaped.
+use mathlib.Core.Path.{sym, ap, _∙_}
 use native.Mathlib.Nat.{sub-zero}
 use native.Mathlib.Omega.{arith}
 use lib.ListN.{length-take}
 use borrow.Author.Needs.{needs}
-use Rattle.frame.specs.Legal.{alike}
+use Rattle.sheet.specs.declared.record.ExponentSet.the-variants.{New}
 use Rattle.frame_writer.specs.TestsLaws.{part-reuse, part-new, span-least}
 use Rattle.frame_writer.proofs.legal.part_legal.Statement.{statement}
 use Rattle.frame_writer.proofs.legal.part_legal.Tie as tie
@@ -12,14 +12,18 @@ use Rattle.frame_writer.proofs.legal.part_legal.Tie as tie
 alike-requires : tie.Need-alike-requires
 alike-requires c κs = rw (length-take, length-take) (omega arith)
 
-returns : tie.Need-returns
-returns c = (rw sub-zero at (c .alike .ensures)) ∙ part-reuse _ _ _ _ (c .before .before .before .if1 .taken)
-
 is-shaped-requires : tie.Need-is-shaped-requires
-is-shaped-requires c κs = rw (c .span-for .ensures) (span-least _ (c .before .before .if1 .left))
+is-shaped-requires c κs =
+    let new = c .before .before .before .set .given .1 ∙ ap New (sym (c .wide .ensures .0)) in
+    span-least _ (c .before .before .before .before .before .before .before .pre .2 .known _ new)
+
+returns : tie.Need-returns
+returns c = (rw sub-zero at (c .alike .ensures)) ∙ part-reuse _ _ _ _ (c .before .before .before .enum-told .given .1)
 
 returns-2 : tie.Need-returns-2
-returns-2 c = (rw (sub-zero, c .before .span-for .ensures) at (c .is-shaped .ensures)) ∙ part-new _ _ _ _ (c .before .before .before .if1 .left)
+returns-2 c =
+    let new = c .before .before .before .before .set .given .1 ∙ ap New (sym (c .before .wide .ensures .0)) in
+    (rw sub-zero at (c .is-shaped .ensures)) ∙ part-new _ _ _ _ _ new
 
 pub part-legal-spec : {M : Type 1} → statement M
 part-legal-spec =
@@ -31,11 +35,13 @@ part-legal-spec =
     (λ c. search needs)
     (λ c. search needs)
     (λ c. search needs)
+    (λ c. search needs)
     alike-requires
-    returns
+    (λ c. search needs)
     (λ c. search needs)
     (λ c. search needs)
     (λ c. search needs)
     (λ c κs. search needs)
     is-shaped-requires
+    returns
     returns-2)

@@ -7,16 +7,16 @@ use native.Mathlib.Omega.{arith}
 use borrow.Author.Needs.{needs}
 use Rattle.bits.specs.Parts.{piece}
 use Rattle.sheet.specs.Ranges.{allBelow}
-use Rattle.frame.specs.Layout.{channels, endAt, strategyAt}
+use Rattle.frame.specs.Layout.{channels, endAt, setAt}
 use Rattle.frame.specs.Legal.{partLegal, rowLegal}
-use Rattle.frame.specs.Under.{held-channels, held-end, held-strategy, held-channel}
+use Rattle.frame.specs.Under.{held-channels, held-end, held-set, held-channel, held-known}
 use Rattle.frame_rows.specs.RowsLaws.{part-inside}
 use Rattle.frame_rows.specs.Walks.{lent-is, lent-long}
 use Rattle.frame_writer.proofs.legal.row_legal.Statement.{statement}
 use Rattle.frame_writer.proofs.legal.row_legal.Tie as tie
 
 abbrev Inv-loop : tie.InvT-loop
-Inv-loop sheet strategies b old row track all₀ c₀ c-end all c = (c ≤ track .channels) × (all ≡ allBelow c (λ j. partLegal (strategyAt sheet b j) (endAt sheet j) (piece 256 j old) (piece 256 j row)))
+Inv-loop sheet strategies b old row track all₀ c₀ c-end all c = (c ≤ track .channels) × (all ≡ allBelow c (λ j. partLegal (setAt sheet b j) (endAt sheet j) (piece 256 j old) (piece 256 j row)))
 
 abbrev μ-loop : tie.MeasureT-loop
 μ-loop sheet strategies b old row track all₀ c₀ c-end all c = track .channels - c
@@ -24,8 +24,8 @@ abbrev μ-loop : tie.MeasureT-loop
 loop-holds : tie.Need-loop-holds Inv-loop μ-loop
 loop-holds c = (omega arith, refl)
 
-strategy-at-requires : tie.Need-strategy-at-requires Inv-loop μ-loop
-strategy-at-requires c κs = (c .before .before .before .before .before .pre .1 .0, omega (arith, part-inside (c .before .before .before .before .before .pre .0) _ (c .loop-test .taken)))
+set-at-requires : tie.Need-set-at-requires Inv-loop μ-loop
+set-at-requires c κs = (c .before .before .before .before .before .pre .1 .0, omega (arith, part-inside (c .before .before .before .before .before .pre .0) _ (c .loop-test .taken)))
 
 element-copy-out-end : tie.Need-element-copy-out-end Inv-loop μ-loop
 element-copy-out-end c = omega (arith, part-inside (c .before .before .before .before .before .before .pre .0) _ (c .before .loop-test .taken))
@@ -51,7 +51,7 @@ part-legal-requires c κs =
     let inside = c .before .before .before .before .loop-test .taken in
     let most = held-channel (p .0) i inside .end-most in
     let end = held-end (p .0) i in
-    (omega (arith, most, end, lent-long 256 n i inside (g .old .now) (p .1 .1)), omega (arith, most, end, lent-long 256 n i inside (g .row .now) (p .1 .2)))
+    (omega (arith, most, end, lent-long 256 n i inside (g .old .now) (p .1 .1)), omega (arith, most, end, lent-long 256 n i inside (g .row .now) (p .1 .2)), held-known (p .0) (g .b) i (c .before .before .before .set-at .ensures))
 
 loop-again : tie.Need-loop-again Inv-loop μ-loop
 loop-again c =
@@ -60,7 +60,7 @@ loop-again c =
     let n = g .t2 .channels in
     let i = c .before .before .before .before .before .before .loop .c in
     let inside = c .before .before .before .before .before .loop-test .taken in
-    let s = c .before .before .before .before .strategy-at .ensures ∙ held-strategy u (g .b) i in
+    let s = c .before .before .before .before .set-at .ensures ∙ held-set u (g .b) i in
     let e = rw (lent-is 256 n i inside (g .old .now), lent-is 256 n i inside (g .row .now), held-end u i, s) at (c .part-legal .ensures) in
     (omega (arith, inside), rw (add-one i) (ap₂ (λ (x y : Bool). x && y) (c .before .before .before .before .before .before .loop .inv .1) e))
 
@@ -77,7 +77,7 @@ row-legal-spec =
     Inv-loop
     μ-loop
     loop-holds
-    strategy-at-requires
+    set-at-requires
     (λ c. search needs)
     element-copy-out-end
     mul-a

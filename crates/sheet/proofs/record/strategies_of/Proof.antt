@@ -4,7 +4,7 @@ use Rattle.sheet.proofs.record.strategies_of.Statement.{statement}
 use Rattle.sheet.proofs.record.strategies_of.Tie as tie
 
 returns : tie.Need-returns
-returns c = simp (c .before .before .before .before .before .strategy-row .ensures, c .before .before .before .before .strategy-row2 .ensures, c .before .before .before .strategy-row3 .ensures, c .before .before .strategy-row4 .ensures, c .before .strategy-row5 .ensures, c .strategy-row6 .ensures)
+returns c = simp (c .before .before .before .before .before .sets-of .ensures, c .before .before .before .before .sets-of2 .ensures, c .before .before .before .sets-of3 .ensures, c .before .before .sets-of4 .ensures, c .before .sets-of5 .ensures, c .sets-of6 .ensures)
 
 pub strategies-of-spec : {M : Type 1} → statement M
 strategies-of-spec =
