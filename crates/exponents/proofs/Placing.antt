@@ -7,8 +7,7 @@ use native.Mathlib.Omega.{arith}
 use lib.ListN.{length, take, drop, getD, replicate, length-take, length-drop, length-replicate}
 use lib.Seq.{length-take-le}
 use borrow.Author.Tests.{le-leb, lt-leb}
-use Rattle.bits.specs.Parts.{placed}
-use Rattle.bits.specs.PartsLaws.{placed-front}
+use Rattle.bits.specs.PartsLaws.{placed-front, placed}
 use Rattle.exponents.specs.Reading.{last, withSpan, withGroup, reached}
 use Rattle.exponents.specs.ReadingLaws.{last-taken, span-pad, span-good, span-below, span-above}
 

@@ -8,8 +8,8 @@ use native.Mathlib.Omega.{arith}
 use lib.ListN.{length, take, replicate, length-append}
 use lib.Seq.{length-take-le}
 use Rattle.bits.specs.Parts.{joined, piece, tab}
-use Rattle.bits.specs.Reading.{Reads, ok}
-use Rattle.bits.specs.ReadingLaws.{reads-map, reads-gather}
+use Rattle.bits.specs.Reading.{ok}
+use Rattle.bits.specs.ReadingLaws.{reads-map, reads-gather, Reads}
 use Rattle.bits.specs.Refusal as refusal
 use Rattle.exponents.specs.Groups.{exponentBits}
 use Rattle.exponents.specs.Reading.{readExponents}

@@ -6,8 +6,8 @@ use mathlib.Core.List.{List, _++_}
 use native.Mathlib.Omega.{arith}
 use lib.ListN.{length, length-drop}
 use Rattle.bits.specs.Parts.{joined, piece}
-use Rattle.bits.specs.Read.{from}
-use Rattle.bits.specs.Reading.{ok, fault, Came}
+use Rattle.bits.specs.Read.{from, Came}
+use Rattle.bits.specs.Reading.{ok, fault}
 use Rattle.bits.specs.Refusal as refusal
 use Rattle.bits.specs.declared.read.ReadEnd.{ReadEnd}
 use Rattle.mantissas.specs.Digits.{Below, nil, cons, below-all}

@@ -7,8 +7,8 @@ use native.Mathlib.Nat.{lt-of-lt-of-le, not-suc-le-zero}
 use native.Mathlib.Omega.{arith}
 use lib.Dec.{eqb}
 use borrow.Author.Tests.{eqb-true, eqb-false, eq-eqb, ne-eqb, lt-ltb}
-use Rattle.bits.specs.Reading.{ok, Reads}
-use Rattle.bits.specs.ReadingLaws.{reads-bits, reads-same}
+use Rattle.bits.specs.Reading.{ok}
+use Rattle.bits.specs.ReadingLaws.{reads-bits, reads-same, Reads}
 use Rattle.bits.specs.Tests.{by-bool}
 use Rattle.mantissas.specs.Digits.{digits, padded, Below, nil, cons}
 use Rattle.mantissas.specs.DigitsLaws.{length-padded, padded-below, pack-lt, digits-pack}
