@@ -10,7 +10,7 @@ use Rattle.bits.specs.Reading.{Outcome, ok, then}
 use Rattle.bits.specs.Read.{Came}
 use Rattle.bits.specs.Tests.{both}
 use Rattle.bits.specs.declared.read.ReadEnd.{ReadEnd}
-use Rattle.shaping.specs.Shaped.{Shaped}
+use Rattle.shaping.specs.Greatest.{Shaped}
 use Rattle.sheet.specs.Ranges.{legalEnd}
 use Rattle.shaping.specs.Passes.{isSpan}
 use Rattle.exponents.specs.Groups.{groupCount, exponentBits}

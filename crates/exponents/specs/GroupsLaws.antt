@@ -12,7 +12,7 @@ use Rattle.bits.specs.FieldLaws.{length-field}
 use Rattle.bits.specs.PartsLaws.{joined-length}
 use Rattle.shaping.specs.GroupsLaws.{by-span, groups-are}
 use Rattle.shaping.specs.Passes.{isSpan}
-use Rattle.shaping.specs.Shaped.{Follows, Shaped}
+use Rattle.shaping.specs.Greatest.{Follows, Shaped}
 use Rattle.sheet.specs.Ranges.{legalEnd}
 use Rattle.sheet.specs.RangesLaws.{end-bounds}
 use Rattle.exponents.specs.Groups.{spanCount, groupCount, codedAt, deltaAt, groupAt, groupBits, exponentBits, Near}

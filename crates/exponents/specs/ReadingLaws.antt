@@ -12,7 +12,7 @@ use lib.Seq.{take-add, take-all, getD-take, getD-drop, length-take-le}
 use borrow.Author.Tests.{le-leb, lt-leb}
 use Rattle.bits.specs.ReadingLaws.{reads-bits, reads-then, reads-steps, reads-same, Reads}
 use Rattle.shaping.specs.GroupsLaws.{span-bounds}
-use Rattle.shaping.specs.Shaped.{Shaped}
+use Rattle.shaping.specs.Greatest.{Shaped}
 use Rattle.sheet.specs.Ranges.{legalEnd}
 use Rattle.sheet.specs.RangesLaws.{end-bounds}
 use Rattle.shaping.specs.Passes.{isSpan}

@@ -10,7 +10,8 @@ use borrow.Author.Tests.{eqb-true, eq-eqb}
 use Rattle.bits.specs.Parts.{piece}
 use Rattle.mantissas.specs.Stream.{Coded, coded}
 use Rattle.mantissas.specs.CodedLaws.{coded-true}
-use Rattle.shaping.specs.Shaped.{Shaped, shaped-yes}
+use Rattle.shaping.specs.ShapedLaws.{shaped-yes}
+use Rattle.shaping.specs.Greatest.{Shaped}
 use Rattle.sheet.specs.Tests.{all-below}
 use Rattle.frame.specs.Layout.{channels, endAt, strategyAt, spanFor, rowOf, cleanRow}
 use Rattle.frame.specs.Body.{bapRow}

@@ -5,7 +5,7 @@ use mathlib.Core.Path.{_≡_}
 use mathlib.Core.List.{List}
 use lib.ListN.{take, getD}
 use Rattle.bits.specs.Parts.{joined, piece}
-use Rattle.shaping.specs.Shaped.{Shaped}
+use Rattle.shaping.specs.Greatest.{Shaped}
 use Rattle.frame.specs.Layout.{channels, endAt, strategyAt, spanFor}
 
 -- a new set is shaped for its strategy below end
