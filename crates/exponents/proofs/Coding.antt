@@ -9,7 +9,8 @@ use lib.Seq.{getD-take, length-take-le}
 use Rattle.bits.specs.Field.{field}
 use Rattle.bits.specs.Parts.{joined}
 use Rattle.shaping.specs.Greatest.{Shaped}
-use Rattle.exponents.specs.Groups.{delta, group, Coded, groupCount, codedAt, deltaAt, groupAt, groupBits, exponentBits, Near}
+use Rattle.exponents.specs.Groups.{delta, group, groupCount, codedAt, deltaAt, groupAt, groupBits, exponentBits}
+use Rattle.exponents.specs.Inner.{Coded, Near}
 use Rattle.exponents.specs.declared.groups.CodedSpan.{CodedSpan}
 use Rattle.exponents.specs.GroupsLaws.{coded-near}
 use Rattle.exponents.specs.ReadingLaws.{before-coded}

@@ -15,7 +15,8 @@ use Rattle.shaping.specs.Passes.{isSpan}
 use Rattle.shaping.specs.Greatest.{Follows, Shaped}
 use Rattle.sheet.specs.Ranges.{legalEnd}
 use Rattle.sheet.specs.RangesLaws.{end-bounds}
-use Rattle.exponents.specs.Groups.{spanCount, groupCount, codedAt, deltaAt, groupAt, groupBits, exponentBits, Near}
+use Rattle.exponents.specs.Groups.{spanCount, groupCount, codedAt, deltaAt, groupAt, groupBits, exponentBits}
+use Rattle.exponents.specs.Inner.{Near}
 use Rattle.exponents.specs.ShapedLaws.{first-low, follows-run}
 
 -- ---- how many groups
