@@ -33,7 +33,8 @@ use Rattle.excitation.specs.declared.excitation.Leaks.{Leaks}
 use Rattle.masking.specs.Held.{heldDeltas}
 use Rattle.masking.specs.HeldLaws.{deltas-most}
 use Rattle.allocation.specs.Initialization.{dbkneeOf}
-use Rattle.allocation.specs.Allocation.{allocated, LegalCodes}
+use Rattle.allocation.specs.Allocation.{allocated}
+use Rattle.allocation.specs.Legal.{LegalCodes}
 use Rattle.allocation.specs.Held.{heldFloor, heldOffset, parametersOf, Small, levelAt, bapBy, bapAt, heldBelow, heldBin}
 use Rattle.allocation.specs.HeldLaws.{allocated-held}
 use Rattle.allocation.specs.declared.initialization.Parameters.{Parameters}
