@@ -8,7 +8,8 @@ use lib.Dec.{eqb}
 use lib.ListN.{take}
 use borrow.Author.Tests.{eqb-true, eq-eqb}
 use Rattle.bits.specs.Parts.{piece}
-use Rattle.mantissas.specs.Stream.{Coded, coded}
+use Rattle.mantissas.specs.Stream.{coded}
+use Rattle.mantissas.specs.Inner.{Coded}
 use Rattle.mantissas.specs.CodedLaws.{coded-true}
 use Rattle.shaping.specs.ShapedLaws.{shaped-yes}
 use Rattle.shaping.specs.Greatest.{Shaped}

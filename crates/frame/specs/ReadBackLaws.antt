@@ -15,7 +15,8 @@ use Rattle.exponents.specs.Groups.{exponentBits}
 use Rattle.exponents.specs.Reading.{readExponents}
 use Rattle.exponents.specs.ReadingLaws.{reads-exponents}
 use Rattle.mantissas.specs.ReadBack.{reads-stream}
-use Rattle.mantissas.specs.Stream.{Coded, stream}
+use Rattle.mantissas.specs.Stream.{stream}
+use Rattle.mantissas.specs.Inner.{Coded}
 use Rattle.sheet.specs.Ranges.{legalEnd}
 use Rattle.sheet.specs.Sheet.{checkOf}
 use Rattle.frame.specs.Layout.{channels, endAt, strategyAt, spanFor, rowOf, clean, cleanRow}

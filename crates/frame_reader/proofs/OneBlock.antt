@@ -10,7 +10,8 @@ use Rattle.bits.specs.Read.{from, Came}
 use Rattle.bits.specs.Reading.{ok, fault}
 use Rattle.bits.specs.Refusal as refusal
 use Rattle.bits.specs.declared.read.ReadEnd.{ReadEnd}
-use Rattle.mantissas.specs.Digits.{Below, nil, cons, below-all}
+use Rattle.mantissas.specs.DigitsLaws.{below-all}
+use Rattle.mantissas.specs.Inner.{Below, nil, cons}
 use Rattle.mantissas.specs.Stream.{readStream}
 use Rattle.sheet.specs.Common.{commonOf}
 use Rattle.sheet.specs.Record.{recordOf}
