@@ -9,8 +9,8 @@ use lib.Dec.{T, leb, eqb, leb→le}
 use lib.ListN.{length, take, drop, getD, replicate, length-take, length-drop, List·getD-eq-default}
 use lib.Seq.{take-length}
 use borrow.Author.Tests.{lt-ltb, le-ltb, eqb-true, leb-true}
-use Rattle.bits.specs.Parts.{tab, placed}
-use Rattle.bits.specs.PartsLaws.{length-tab, getD-tab, tab-cong}
+use Rattle.bits.specs.Parts.{tab}
+use Rattle.bits.specs.PartsLaws.{length-tab, getD-tab, tab-cong, placed}
 use Rattle.bits.specs.Tests.{both}
 use Rattle.tables.specs.Bands.{bndtab, masktab}
 use Rattle.tables.specs.Computed.{allBelow, at-index}
@@ -33,7 +33,8 @@ use Rattle.excitation.specs.declared.excitation.Leaks.{Leaks}
 use Rattle.masking.specs.Held.{heldDeltas}
 use Rattle.masking.specs.HeldLaws.{deltas-most}
 use Rattle.allocation.specs.Initialization.{dbkneeOf}
-use Rattle.allocation.specs.Allocation.{allocated, LegalCodes}
+use Rattle.allocation.specs.Allocation.{allocated}
+use Rattle.allocation.specs.Legal.{LegalCodes}
 use Rattle.allocation.specs.Held.{heldFloor, heldOffset, parametersOf, Small, levelAt, bapBy, bapAt, heldBelow, heldBin}
 use Rattle.allocation.specs.HeldLaws.{allocated-held}
 use Rattle.allocation.specs.declared.initialization.Parameters.{Parameters}

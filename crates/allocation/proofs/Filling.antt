@@ -8,8 +8,8 @@ use lib.Bits.{bitAnd, and-high}
 use lib.Dec.{T, eqb, eqb→eq}
 use lib.ListN.{length, take, drop, getD, replicate, length-take, length-drop}
 use lib.Seq.{getD-take, getD-drop}
-use Rattle.bits.specs.Parts.{tab, placed}
-use Rattle.bits.specs.PartsLaws.{length-tab, tab-cong, placed-front, placed-length}
+use Rattle.bits.specs.Parts.{tab}
+use Rattle.bits.specs.PartsLaws.{length-tab, tab-cong, placed-front, placed-length, placed}
 use Rattle.tables.specs.Bands.{bndtab, masktab}
 use Rattle.tables.specs.Computed.{allBelow, at-index}
 use Rattle.tables.specs.Entry.{entry}

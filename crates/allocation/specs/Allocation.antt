@@ -1,9 +1,8 @@
 -- The allocation of one channel (the Rust's `compute_bap`, A/52 7.2.2; document 01, "Allocation"), and what the call answers and leaves on every input
 -- (document 01, "When a call is turned back": 2, 10, 4).
-use Prim.Native.Nat.{ℕ, _≤_, _<_}
-use mathlib.Core.Bool.{Bool, true, not, cond, _&&_}
+use Prim.Native.Nat.{ℕ}
+use mathlib.Core.Bool.{Bool, not, cond, _&&_}
 use mathlib.Core.List.{List}
-use mathlib.Core.Path.{_≡_}
 use lib.Dec.{eqb, leb}
 use lib.IntN.{ℤ, _+ℤ_}
 use lib.ListN.{length, getD}
@@ -30,31 +29,8 @@ maskOf common channel end exp band =
 unfoldable pub allocated : Common → ChannelRecord → ℕ → List ℕ → ℕ → List ℕ
 allocated common channel end exp n = tab n (bapOf (maskOf common channel end exp) (snroffsetOf common channel) (floorOf common) 0 end exp)
 
--- every code is in its range of document 01, "The track sheet"; a segment from nseg on is not looked at
-pub record LegalCodes (common : Common) (channel : ChannelRecord) : Type 0 where
-  pub fscod : common .fscod ≤ 2
-  pub sdcycod : common .sdcycod ≤ 3
-  pub fdcycod : common .fdcycod ≤ 3
-  pub sgaincod : common .sgaincod ≤ 3
-  pub dbpbcod : common .dbpbcod ≤ 3
-  pub floorcod : common .floorcod ≤ 7
-  pub csnroffst : common .csnroffst ≤ 63
-  pub fsnroffst : channel .fsnroffst ≤ 15
-  pub fgaincod : channel .fgaincod ≤ 7
-  pub nseg : channel .nseg ≤ 8
-  pub offst : (i : ℕ) → i < channel .nseg → getD (channel .offst) i 0 ≤ 31
-  pub len : (i : ℕ) → i < channel .nseg → getD (channel .len) i 0 ≤ 15
-  pub ba : (i : ℕ) → i < channel .nseg → getD (channel .ba) i 0 ≤ 7
-
--- the end is one that a sheet may hold, the exponents below it are at most 24, and both slices reach to it; size is the length of the one for the bap
-pub record LegalBins (exp : List ℕ) (end size : ℕ) : Type 0 where
-  pub legal : legalEnd end ≡ true
-  pub held : end ≤ length exp
-  pub most : (bin : ℕ) → bin < end → getD exp bin 0 ≤ 24
-  pub room : end ≤ size
-  pub short : size ≤ 256
-
--- the same as tests: 2, a code or the end out of range; 10, a slice of the wrong length; 4, an exponent above 24
+-- the tests: 2, a code or the end is out of its range of document 01, "The track sheet" (a segment from nseg on is not looked at); 10, a slice
+-- of the wrong length; 4, an exponent above 24. What they say, as bounds: Legal.antt
 unfoldable pub segmentInRange : List ℕ → List ℕ → List ℕ → ℕ → Bool
 segmentInRange offst len ba i = leb (getD offst i 0) 31 && leb (getD len i 0) 15 && leb (getD ba i 0) 7
 

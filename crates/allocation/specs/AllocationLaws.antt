@@ -26,7 +26,8 @@ use Rattle.excitation.specs.BandPsdLaws.{bndpsd-same}
 use Rattle.excitation.specs.HeldLaws.{excite-same}
 use Rattle.allocation.specs.Initialization.{leakOf, floorOf, snroffsetOf}
 use Rattle.allocation.specs.Bap.{lowered, address, bapOf}
-use Rattle.allocation.specs.Allocation.{maskOf, allocated, LegalCodes}
+use Rattle.allocation.specs.Allocation.{maskOf, allocated}
+use Rattle.allocation.specs.Legal.{LegalCodes}
 
 -- ---- the allocation
 

@@ -13,7 +13,8 @@ use Rattle.sheet.specs.Ranges.{allBelow, legalEnd}
 use Rattle.sheet.specs.Tests.{all-seven, all-below, all-hold}
 use Rattle.sheet.specs.declared.common_part.Common.{Common}
 use Rattle.sheet.specs.declared.record.ChannelRecord.{ChannelRecord}
-use Rattle.allocation.specs.Allocation.{allocated, LegalCodes, LegalBins, segmentInRange, commonCodes, channelCodes, inRange, rightLengths, exponentsFit, answerOf, leftIn}
+use Rattle.allocation.specs.Allocation.{allocated, segmentInRange, commonCodes, channelCodes, inRange, rightLengths, exponentsFit, answerOf, leftIn}
+use Rattle.allocation.specs.Legal.{LegalCodes, LegalBins}
 
 -- ---- what the tests say
 

@@ -34,7 +34,8 @@ use Rattle.masking.specs.Held.{heldCurve, heldDeltas}
 use Rattle.masking.specs.HeldLaws.{curve-held, curve-least, deltas-held}
 use Rattle.allocation.specs.Initialization.{leakOf, dbkneeOf, floorOf, snroffset, snroffsetOf}
 use Rattle.allocation.specs.Bap.{lowered, address, bapOf}
-use Rattle.allocation.specs.Allocation.{maskOf, allocated, LegalCodes}
+use Rattle.allocation.specs.Allocation.{maskOf, allocated}
+use Rattle.allocation.specs.Legal.{LegalCodes}
 use Rattle.allocation.specs.Held.{heldFloor, heldOffset, parametersOf, heldLowered, heldAddress, heldBap, heldLevel, levelAt, bapAt, heldBelow, heldBin}
 
 -- ---- the parameters, by computed tests over all codes

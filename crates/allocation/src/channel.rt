@@ -1,7 +1,8 @@
 // The allocation of one channel (the Rust's `compute_bap`), and the call that turns back what it cannot take.
 ghost use mathlib.Core.Path.{_≡_};
 ghost use lib.ListN.{length};
-ghost use Rattle.allocation.specs.Allocation.{LegalBins, LegalCodes, allocated, answerOf, leftIn};
+ghost use Rattle.allocation.specs.Allocation.{allocated, answerOf, leftIn};
+ghost use Rattle.allocation.specs.Legal.{LegalBins, LegalCodes};
 use crate::bap::fill_bins;
 use crate::initialization::initialize;
 use crate::ranges::exponents_fit;

@@ -1,7 +1,7 @@
 // The parameters of a channel's allocation (A/52 7.2.2.1).
 ghost use mathlib.Core.Path.{_≡_};
 ghost use Prim.Native.Nat.{_≤_};
-ghost use Rattle.allocation.specs.Allocation.{LegalCodes};
+ghost use Rattle.allocation.specs.Legal.{LegalCodes};
 ghost use Rattle.allocation.specs.Held.{heldFloor, heldOffset, parametersOf};
 use excitation::Leak;
 use sheet::ChannelRecord;

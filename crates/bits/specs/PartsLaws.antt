@@ -8,7 +8,11 @@ use native.Mathlib.Decide.{decLe, decLt}
 use native.Mathlib.Omega.{arith}
 use lib.ListN.{length, take, drop, getD, set, length-append, length-take, length-drop, List·getD-append}
 use lib.Seq.{take-add, take-all, take-append-le, drop-append-le, take-at, drop-at, take-suc, take-suc-set, drop-drop, length-take-le, take-length, getD-at}
-use Rattle.bits.specs.Parts.{joined, tab, piece, placed}
+use Rattle.bits.specs.Parts.{joined, tab, piece}
+
+-- the list l with ys in the place of the k entries from a on
+abbrev pub placed : {A : Type 0} → ℕ → ℕ → List A → List A → List A
+placed a k l ys = take a l ++ (ys ++ drop k (drop a l))
 
 -- ---- joined
 

@@ -5,7 +5,7 @@ use Prim.Native.Nat.{ℕ, _-_, _≤_}
 use native.Mathlib.Omega.{arith}
 use lib.ListN.{length, take, length-append, drop, replicate, length-take, length-drop, drop-of-length-le}
 use lib.Seq.{drop-at, take-at, length-take-le}
-use Rattle.bits.specs.Parts.{placed}
+use Rattle.bits.specs.PartsLaws.{placed}
 
 -- every entry made v, which is 0
 pub all-zero : (l now : List ℕ) (n v : ℕ) → now ≡ replicate n v → n ≡ length l → v ≡ 0 → now ≡ replicate (length l) 0

@@ -7,9 +7,9 @@ use native.Mathlib.Omega.{arith}
 use lib.ListN.{length, take, drop, getD, replicate, length-take, length-drop, length-replicate}
 use lib.Seq.{length-take-le}
 use borrow.Author.Tests.{le-leb, lt-leb}
-use Rattle.bits.specs.Parts.{placed}
-use Rattle.bits.specs.PartsLaws.{placed-front}
-use Rattle.exponents.specs.Reading.{last, withSpan, withGroup, reached}
+use Rattle.bits.specs.PartsLaws.{placed-front, placed}
+use Rattle.exponents.specs.Reading.{last, withSpan, withGroup}
+use Rattle.exponents.specs.Inner.{reached}
 use Rattle.exponents.specs.ReadingLaws.{last-taken, span-pad, span-good, span-below, span-above}
 
 pub reached-none : (p : ℕ) (l : List ℕ) → p ≡ 0 → reached p l ≡ none

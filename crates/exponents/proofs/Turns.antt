@@ -8,9 +8,9 @@ use native.Mathlib.Omega.{arith}
 use lib.ListN.{length, take, set}
 use lib.Seq.{take-all, length-take-le}
 use Rattle.bits.specs.Field.{readField}
-use Rattle.bits.specs.Read.{from}
+use Rattle.bits.specs.Read.{from, Came}
 use Rattle.bits.specs.Refusal as refusal
-use Rattle.bits.specs.Reading.{ok, fault, orPast, readBits, Came}
+use Rattle.bits.specs.Reading.{ok, fault, orPast, readBits}
 use Rattle.bits.specs.declared.read.ReadEnd.{ReadEnd}
 use Rattle.sheet.specs.Ranges.{legalEnd}
 use Rattle.shaping.specs.Passes.{isSpan}

@@ -6,10 +6,11 @@ use Prim.Native.Nat.{ℕ, _+_, _-_, _*_}
 use native.Mathlib.Omega.{arith}
 use lib.ListN.{length, take, drop, replicate, length-append, take-append-drop}
 use Rattle.bits.specs.Answer.{gives}
-use Rattle.bits.specs.Reading.{Outcome, ok, then, Came}
+use Rattle.bits.specs.Reading.{Outcome, ok, then}
+use Rattle.bits.specs.Read.{Came}
 use Rattle.bits.specs.Tests.{both}
 use Rattle.bits.specs.declared.read.ReadEnd.{ReadEnd}
-use Rattle.shaping.specs.Shaped.{Shaped}
+use Rattle.shaping.specs.Greatest.{Shaped}
 use Rattle.sheet.specs.Ranges.{legalEnd}
 use Rattle.shaping.specs.Passes.{isSpan}
 use Rattle.exponents.specs.Groups.{groupCount, exponentBits}

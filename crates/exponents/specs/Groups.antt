@@ -1,14 +1,12 @@
 -- The bits of an exponent set (A/52 7.1.3, 5.4.3; document 01, `write_exponents_grouped`: "4 bits, then `ngrps_for_strategy` groups of
 -- 7 bits. Pads are zero deltas."). A group is three differences, each held as its value plus 2: so it is 0..4, and a group is 0..124.
-use mathlib.Core.Path.{_≡_}
 use mathlib.Core.Bool.{Bool}
 use mathlib.Core.List.{List, _++_}
-use Prim.Native.Nat.{ℕ, zero, suc, _+_, _-_, _*_, _≤_}
+use Prim.Native.Nat.{ℕ, zero, suc, _+_, _-_, _*_}
 use lib.ListN.{length, getD}
 use Rattle.bits.specs.Field.{field}
 use Rattle.bits.specs.Parts.{joined}
 use Rattle.shaping.specs.Groups.{groups}
-use Rattle.exponents.specs.declared.groups.CodedSpan.{CodedSpan}
 -- the spans coded after the absolute value
 pub use Rattle.shaping.specs.Groups.{spanCount}
 
@@ -45,15 +43,3 @@ groupBits span exps g = field 7 (groupAt span exps (3 * g))
 -- the set: the absolute value, which is bin 0's exponent, then the groups
 unfoldable pub exponentBits : ℕ → List ℕ → List Bool
 exponentBits span exps = field 4 (getD exps 0 0) ++ joined (groupCount (length exps) span) (groupBits span exps)
-
--- ---- for the code that makes a group
-
--- e may follow p in a shaped set
-abbrev pub Near : ℕ → ℕ → Type 0
-Near p e = (e ≤ p + 2) × (p ≤ e + 2) × (e ≤ 24)
-
--- what the code makes of the bin p, where a span begins: its exponent, or from the end on the one before it; and the difference
-pub record Coded (exps : List ℕ) (p before : ℕ) (r : CodedSpan) : Type 0 where
-  pub value : r .exponent ≡ getD exps p before
-  pub step : r .delta ≡ delta before (getD exps p before)
-  pub low : r .delta ≤ 4

@@ -2,7 +2,8 @@
 pub mod Groups
 pub mod Reading
 pub mod Calls
--- Then the laws: what is coded, that it is read back in one way only, that what is read is shaped, and the calls'.
+-- Then what follows from it: what the inner functions take and give, and the laws of what is coded, of reading it back and of the calls.
+pub mod Inner
 pub mod ShapedLaws
 pub mod GroupsLaws
 pub mod ReadingLaws

@@ -14,7 +14,7 @@ use borrow.Author.Tests.{leb-true}
 use Rattle.bits.specs.Reading.{ok, readBits}
 use Rattle.bits.specs.ReadingLaws.{then-ok, steps-keep, bits-read}
 use Rattle.shaping.specs.GroupsLaws.{span-bounds}
-use Rattle.shaping.specs.Shaped.{Shaped}
+use Rattle.shaping.specs.Greatest.{Shaped}
 use Rattle.shaping.specs.ShapedLaws.{shaped-at-most}
 use Rattle.sheet.specs.Ranges.{legalEnd}
 use Rattle.sheet.specs.RangesLaws.{end-bounds}

@@ -3,9 +3,9 @@
 use mathlib.Core.Bool.{Bool, cond, _&&_}
 use mathlib.Core.List.{List, [], _∷_, _++_}
 use mathlib.Core.Option.{Option, none, some}
-use Prim.Native.Nat.{ℕ, zero, suc, _+_, _-_, _/_, _%_, min}
+use Prim.Native.Nat.{ℕ, _+_, _-_, _/_, _%_, min}
 use lib.Dec.{leb}
-use lib.ListN.{length, take, getD, replicate}
+use lib.ListN.{length, getD, replicate}
 use Rattle.bits.specs.Reading.{Outcome, ok, fault, then, readBits, steps}
 use Rattle.bits.specs.Refusal as refusal
 use Rattle.exponents.specs.Groups.{groupCount}
@@ -49,10 +49,3 @@ readGroups end span first bits = steps (readGroup end span) (groupCount end span
 -- the set: the exponents of the bins below end
 unfoldable pub readExponents : ℕ → ℕ → List Bool → Outcome (List ℕ)
 readExponents end span bits = then (readBits 4 bits) (readGroups end span)
-
--- ---- for the code that fills the slice
-
--- what the code has reached: so many exponents of its slice, or none at 0
-abbrev pub reached : ℕ → List ℕ → Option (List ℕ)
-reached zero exp = none
-reached (suc p) exp = some (take (suc p) exp)

@@ -10,10 +10,9 @@ use native.Mathlib.Omega.{arith}
 use lib.ListN.{length, take, drop, getD, replicate, length-take, length-drop, getD-replicate}
 use lib.Seq.{take-add, take-all, getD-take, getD-drop, length-take-le}
 use borrow.Author.Tests.{le-leb, lt-leb}
-use Rattle.bits.specs.Reading.{Reads}
-use Rattle.bits.specs.ReadingLaws.{reads-bits, reads-then, reads-steps, reads-same}
+use Rattle.bits.specs.ReadingLaws.{reads-bits, reads-then, reads-steps, reads-same, Reads}
 use Rattle.shaping.specs.GroupsLaws.{span-bounds}
-use Rattle.shaping.specs.Shaped.{Shaped}
+use Rattle.shaping.specs.Greatest.{Shaped}
 use Rattle.sheet.specs.Ranges.{legalEnd}
 use Rattle.sheet.specs.RangesLaws.{end-bounds}
 use Rattle.shaping.specs.Passes.{isSpan}

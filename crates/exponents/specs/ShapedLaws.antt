@@ -6,8 +6,8 @@ use Prim.Native.Nat.{ℕ, zero, suc, _+_, _-_, _*_, _≤_, _<_}
 use native.Mathlib.Nat.{zero-mul, suc-mul}
 use native.Mathlib.Omega.{arith}
 use lib.ListN.{length, take, drop, getD, replicate}
-use Rattle.shaping.specs.Shaped.{Follows, Shaped}
-use Rattle.exponents.specs.Groups.{Near}
+use Rattle.shaping.specs.Greatest.{Follows, Shaped}
+use Rattle.exponents.specs.Inner.{Near}
 use Rattle.exponents.specs.Reading.{last}
 
 -- the absolute value fits its 4 bits

@@ -3,9 +3,10 @@ ghost use mathlib.Core.Path.{_≡_};
 ghost use mathlib.Core.Bool.{true};
 ghost use Prim.Native.Nat.{_+_, _-_, _*_, _≤_, _<_};
 ghost use lib.ListN.{length, getD, take};
-ghost use Rattle.shaping.specs.Shaped.{Shaped};
+ghost use Rattle.shaping.specs.Greatest.{Shaped};
 ghost use Rattle.shaping.specs.Passes.{isSpan};
-ghost use Rattle.exponents.specs.Groups.{delta, group, Coded, groupAt, groupCount, Near};
+ghost use Rattle.exponents.specs.Groups.{delta, group, groupAt, groupCount};
+ghost use Rattle.exponents.specs.Inner.{Coded, Near};
 
 // How many groups follow the absolute value, at the ends that a sheet may hold.
 pub fn group_count(end: usize, grpsize: usize) -> usize

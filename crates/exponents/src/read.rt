@@ -15,11 +15,11 @@ ghost use mathlib.Core.Bool.{true};
 ghost use Prim.Native.Nat.{_+_, _-_, _*_, _^_, _≤_, _<_, min};
 ghost use lib.ListN.{length, take, drop, replicate};
 ghost use Rattle.bits.specs.Field.{bitsOf};
-ghost use Rattle.bits.specs.Read.{from as bitsFrom};
-ghost use Rattle.bits.specs.Reading.{Came};
+ghost use Rattle.bits.specs.Read.{from as bitsFrom, Came};
 ghost use Rattle.sheet.specs.Ranges.{legalEnd};
 ghost use Rattle.shaping.specs.Passes.{isSpan};
-ghost use Rattle.exponents.specs.Reading.{withSpan, withGroup, reached, readGroups, readExponents};
+ghost use Rattle.exponents.specs.Reading.{withSpan, withGroup, readGroups, readExponents};
+ghost use Rattle.exponents.specs.Inner.{reached};
 ghost use Rattle.exponents.specs.Calls.{exponentsRead, exponentsLeft};
 
 // Where the span that begins at `p` ends.

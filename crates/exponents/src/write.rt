@@ -16,7 +16,7 @@ ghost use Prim.Native.Nat.{_+_, _-_, _*_, _≤_};
 ghost use lib.ListN.{length, take};
 ghost use Rattle.bits.specs.Answer.{outputOf};
 ghost use Rattle.bits.specs.Write.{Ready, Put, place};
-ghost use Rattle.shaping.specs.Shaped.{Shaped};
+ghost use Rattle.shaping.specs.Greatest.{Shaped};
 ghost use Rattle.sheet.specs.Ranges.{legalEnd};
 ghost use Rattle.shaping.specs.Passes.{isSpan};
 ghost use Rattle.exponents.specs.Groups.{groupCount, exponentBits};

@@ -7,9 +7,11 @@ use lib.Dec.{eqb}
 use lib.ListN.{take}
 use borrow.Author.Tests.{eqb-true, eq-eqb}
 use Rattle.bits.specs.Parts.{piece}
-use Rattle.mantissas.specs.Stream.{Coded, coded}
+use Rattle.mantissas.specs.Stream.{coded}
+use Rattle.mantissas.specs.Inner.{Coded}
 use Rattle.mantissas.specs.CodedLaws.{coded-true}
-use Rattle.shaping.specs.Shaped.{Shaped, shaped-yes}
+use Rattle.shaping.specs.ShapedLaws.{shaped-yes}
+use Rattle.shaping.specs.Greatest.{Shaped}
 use Rattle.sheet.specs.Tests.{all-below}
 use Rattle.sheet.specs.declared.record.ExponentSet.the-variants.{Reuse, New}
 use Rattle.frame.specs.Layout.{channels, endAt, setAt, rowOf, cleanRow}

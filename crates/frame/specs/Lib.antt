@@ -1,8 +1,10 @@
+-- A frame's body: document 01, "The frame body". First what a reader must believe.
 pub mod Layout
 pub mod Body
 pub mod Reader
 pub mod Legal
 pub mod Answers
+-- Then what follows from it: what the frame's functions hold of an accepted sheet, the laws, and demand 3.
 pub mod Under
 pub mod LayoutLaws
 pub mod BodyLaws

@@ -8,14 +8,15 @@ use native.Mathlib.Omega.{arith}
 use lib.ListN.{length, take, replicate, length-append}
 use lib.Seq.{length-take-le}
 use Rattle.bits.specs.Parts.{joined, piece, tab}
-use Rattle.bits.specs.Reading.{Reads, ok}
-use Rattle.bits.specs.ReadingLaws.{reads-map, reads-gather}
+use Rattle.bits.specs.Reading.{ok}
+use Rattle.bits.specs.ReadingLaws.{reads-map, reads-gather, Reads}
 use Rattle.bits.specs.Refusal as refusal
 use Rattle.exponents.specs.Groups.{exponentBits}
 use Rattle.exponents.specs.Reading.{readExponents}
 use Rattle.exponents.specs.ReadingLaws.{reads-exponents}
 use Rattle.mantissas.specs.ReadBack.{reads-stream}
-use Rattle.mantissas.specs.Stream.{Coded, stream}
+use Rattle.mantissas.specs.Stream.{stream}
+use Rattle.mantissas.specs.Inner.{Coded}
 use Rattle.sheet.specs.Ranges.{legalEnd}
 use Rattle.sheet.specs.Sheet.{checkOf}
 use Rattle.sheet.specs.declared.record.ExponentSet.{ExponentSet}

@@ -5,8 +5,7 @@ use mathlib.Core.Path.{_≡_, sym, ap, _∙_}
 use mathlib.Core.Bool.{Bool}
 use mathlib.Core.List.{List, _++_}
 use lib.ListN.{length}
-use Rattle.bits.specs.Reading.{Reads}
-use Rattle.bits.specs.ReadingLaws.{reads-steps, reads-same}
+use Rattle.bits.specs.ReadingLaws.{reads-steps, reads-same, Reads}
 use Rattle.bits.specs.Refusal as refusal
 use Rattle.sheet.specs.Sheet.{checkOf}
 use Rattle.frame.specs.Layout.{channels, rowOf, SameBelowEnds}

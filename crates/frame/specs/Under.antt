@@ -6,7 +6,7 @@ use mathlib.Core.List.{List}
 use native.Mathlib.Omega.{arith}
 use lib.ListN.{getD}
 use Rattle.bits.specs.Refusal as refusal
-use Rattle.allocation.specs.Allocation.{LegalCodes}
+use Rattle.allocation.specs.Legal.{LegalCodes}
 use Rattle.allocation.specs.AllocationLaws.{codes-legal}
 use Rattle.shaping.specs.Passes.{isSpan}
 use Rattle.sheet.specs.Common.{commonOf, channelsOf}

@@ -11,7 +11,7 @@ use Rattle.bits.specs.declared.write.Writer.{Writer}
 use Rattle.exponents.specs.Groups.{groupCount, exponentBits}
 use Rattle.exponents.specs.GroupsLaws.{length-exponentBits}
 use Rattle.shaping.specs.Passes.{isSpan}
-use Rattle.shaping.specs.Shaped.{Shaped}
+use Rattle.shaping.specs.Greatest.{Shaped}
 use Rattle.sheet.specs.Ranges.{legalEnd}
 use Rattle.sheet.specs.declared.record.ExponentSet.{ExponentSet}
 use Rattle.sheet.specs.declared.record.ExponentSet.the-variants.{Reuse, New}

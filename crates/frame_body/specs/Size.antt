@@ -12,7 +12,7 @@ use Rattle.exponents.specs.GroupsLaws.{count-thirds, count-reaches}
 use Rattle.mantissas.specs.BlocksLaws.{joined-most}
 use Rattle.mantissas.specs.CodedLaws.{coded-baps}
 use Rattle.mantissas.specs.Count.{length-stream, bits-most}
-use Rattle.mantissas.specs.Stream.{Coded}
+use Rattle.mantissas.specs.Inner.{Coded}
 use Rattle.sheet.specs.Ranges.{legalEnd}
 use Rattle.sheet.specs.Sheet.{checkOf}
 use Rattle.sheet.specs.declared.record.ExponentSet.{ExponentSet}

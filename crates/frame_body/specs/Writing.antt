@@ -5,10 +5,10 @@ use mathlib.Core.Path.{_≡_}
 use mathlib.Core.List.{List}
 use lib.ListN.{take, getD}
 use Rattle.bits.specs.Parts.{joined, piece}
-use Rattle.shaping.specs.Shaped.{Shaped}
-use Rattle.frame.specs.Layout.{channels, endAt, setAt}
+use Rattle.shaping.specs.Greatest.{Shaped}
 use Rattle.sheet.specs.declared.record.ExponentSet.{ExponentSet}
 use Rattle.sheet.specs.declared.record.ExponentSet.the-variants.{New}
+use Rattle.frame.specs.Layout.{channels, endAt, setAt}
 
 -- a new set is shaped for its span below end
 pub record NewSet (set : ExponentSet) (end : ℕ) (part : List ℕ) : Type 0 where

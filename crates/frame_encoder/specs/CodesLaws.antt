@@ -21,7 +21,7 @@ use Rattle.frame_runs.specs.FiniteLaws.{finite-below}
 use Rattle.frame_runs.specs.FramedLaws.{below-row}
 use Rattle.frame_runs.specs.Runs.{belowEnd}
 use Rattle.frame_runs.specs.RunsLaws.{whole-below}
-use Rattle.mantissas.specs.Ranges.{row}
+use Rattle.mantissas.specs.RangesLaws.{row}
 use Rattle.quantiser.specs.Code.{codeOf}
 use Rattle.quantiser.specs.CodeLaws.{code-in-range}
 use Rattle.sheet.specs.Sheet.{checkOf}

@@ -21,8 +21,9 @@ use Rattle.frame_runs.specs.Runs.{belowEnd, expsOf}
 use Rattle.frame_runs.specs.RunsLaws.{whole-below}
 use Rattle.frame_runs.specs.RunsLegal.{length-expsOf, expsOf-legal}
 use Rattle.mantissas.specs.CodedLaws.{coded-is}
-use Rattle.mantissas.specs.Ranges.{row}
-use Rattle.mantissas.specs.Stream.{Coded, empty, bin, coded}
+use Rattle.mantissas.specs.RangesLaws.{row}
+use Rattle.mantissas.specs.Stream.{coded}
+use Rattle.mantissas.specs.Inner.{Coded, empty, bin}
 use Rattle.quantiser.specs.CodeLaws.{code-in-range}
 use Rattle.sheet.specs.Sheet.{checkOf}
 use Rattle.sheet.specs.Tests.{all-hold}

@@ -6,11 +6,12 @@ use mathlib.Core.List.{List, _++_}
 use native.Mathlib.Omega.{arith}
 use lib.ListN.{length, length-drop}
 use Rattle.bits.specs.Parts.{joined, piece}
-use Rattle.bits.specs.Read.{from}
-use Rattle.bits.specs.Reading.{ok, fault, Came}
+use Rattle.bits.specs.Read.{from, Came}
+use Rattle.bits.specs.Reading.{ok, fault}
 use Rattle.bits.specs.Refusal as refusal
 use Rattle.bits.specs.declared.read.ReadEnd.{ReadEnd}
-use Rattle.mantissas.specs.Digits.{Below, nil, cons, below-all}
+use Rattle.mantissas.specs.DigitsLaws.{below-all}
+use Rattle.mantissas.specs.Inner.{Below, nil, cons}
 use Rattle.mantissas.specs.Stream.{readStream}
 use Rattle.sheet.specs.Common.{commonOf}
 use Rattle.sheet.specs.Record.{recordOf}

@@ -4,8 +4,8 @@ use mathlib.Core.Path.{_≡_}
 use mathlib.Core.Bool.{Bool}
 use mathlib.Core.List.{List, _++_}
 use lib.ListN.{length, take, drop, replicate}
-use Rattle.bits.specs.Read.{from}
-use Rattle.bits.specs.Reading.{ok, then, Came}
+use Rattle.bits.specs.Read.{from, Came}
+use Rattle.bits.specs.Reading.{ok, then}
 use Rattle.bits.specs.declared.read.ReadEnd.{ReadEnd}
 use Rattle.exponents.specs.CallsLaws.{came-padded}
 use Rattle.exponents.specs.Reading.{readExponents}

@@ -6,10 +6,10 @@ use mathlib.Core.List.{List}
 use native.Mathlib.Omega.{arith}
 use lib.ListN.{length, take, drop}
 use lib.Seq.{take-all}
-use Rattle.bits.specs.Parts.{piece, placed}
-use Rattle.bits.specs.PartsLaws.{within, part-long, placed-length, place-front, part-old, place-rest}
-use Rattle.bits.specs.Read.{from}
-use Rattle.bits.specs.Reading.{ok, fault, gather, Came}
+use Rattle.bits.specs.Parts.{piece}
+use Rattle.bits.specs.PartsLaws.{within, part-long, placed-length, place-front, part-old, place-rest, placed}
+use Rattle.bits.specs.Read.{from, Came}
+use Rattle.bits.specs.Reading.{ok, fault, gather}
 use Rattle.bits.specs.ReadingLaws.{gather-start, gather-again, gather-fault}
 use Rattle.bits.specs.Refusal as refusal
 use Rattle.bits.specs.declared.read.ReadEnd.{ReadEnd}

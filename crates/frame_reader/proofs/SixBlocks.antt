@@ -8,8 +8,8 @@ use native.Mathlib.Numerals.{add-one}
 use native.Mathlib.Omega.{arith}
 use lib.ListN.{length, take, drop, getD, set, replicate, length-set, length-drop, length-replicate}
 use lib.Seq.{take-all, take-suc-set, getD-take, getD-drop}
-use Rattle.bits.specs.Parts.{piece, placed}
-use Rattle.bits.specs.PartsLaws.{within, placed-length, place-front}
+use Rattle.bits.specs.Parts.{piece}
+use Rattle.bits.specs.PartsLaws.{within, placed-length, place-front, placed}
 use Rattle.bits.specs.Read.{from}
 use Rattle.bits.specs.Reading.{ok, fault, steps}
 use Rattle.bits.specs.ReadingLaws.{steps-start, steps-again, steps-fault}

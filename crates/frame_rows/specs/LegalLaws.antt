@@ -8,7 +8,7 @@ use lib.ListN.{length, take, getD}
 use lib.Seq.{getD-take}
 use Rattle.bits.specs.Parts.{piece}
 use Rattle.bits.specs.Refusal as refusal
-use Rattle.shaping.specs.Shaped.{Shaped}
+use Rattle.shaping.specs.Greatest.{Shaped}
 use Rattle.shaping.specs.ShapedLaws.{shaped-at-most}
 use Rattle.sheet.specs.Sheet.{checkOf}
 use Rattle.sheet.specs.declared.record.ExponentSet.the-variants.{Reuse, New}

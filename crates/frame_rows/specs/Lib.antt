@@ -1,4 +1,6 @@
+-- The allocation of a whole frame: document 01, "The frame body". First what a reader must believe.
 pub mod Rows
+-- Then what follows from it: the laws of rows and of the loops over them.
 pub mod LegalLaws
 pub mod RowsLaws
 pub mod CleanLaws

@@ -6,8 +6,8 @@ use native.Mathlib.Nat.{sub-zero}
 use native.Mathlib.Omega.{arith}
 use lib.ListN.{length, take, drop, getD, replicate, length-append, length-take, length-drop, length-replicate, drop-of-length-le}
 use lib.Seq.{take-at, length-take-le, length-front}
-use Rattle.bits.specs.Parts.{joined, piece, placed}
-use Rattle.bits.specs.PartsLaws.{joined-length, piece-joined, within, front-taken}
+use Rattle.bits.specs.Parts.{joined, piece}
+use Rattle.bits.specs.PartsLaws.{joined-length, piece-joined, within, front-taken, placed}
 use Rattle.bits.specs.Refusal as refusal
 use Rattle.sheet.specs.Sheet.{checkOf}
 use Rattle.sheet.specs.declared.record.BlockSet.{BlockSet}

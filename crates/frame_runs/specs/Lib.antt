@@ -1,5 +1,7 @@
+-- The exponents of a frame's coefficients: document 01, "The frame body". First what a reader must believe.
 pub mod Runs
 pub mod Finite
+-- Then what follows from it: the exponents as the code carries them from block to block, and the laws.
 pub mod Carried
 pub mod FiniteLaws
 pub mod RunsLaws

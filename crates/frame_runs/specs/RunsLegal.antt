@@ -17,8 +17,8 @@ use Rattle.frame.specs.Reader.{earlier}
 use Rattle.frame.specs.Under.{channel-known, known-set, one-of-two, by-reuse, by-new}
 use Rattle.frame_rows.specs.LegalLaws.{earlier-taken}
 use Rattle.frame_rows.specs.Rows.{cleaned}
-use Rattle.shaping.specs.Shaped.{shapedFor, shaped-of}
-use Rattle.shaping.specs.ShapedLaws.{run-shaped}
+use Rattle.shaping.specs.Shaped.{shapedFor}
+use Rattle.shaping.specs.ShapedLaws.{run-shaped, shaped-of}
 use Rattle.sheet.specs.Sheet.{checkOf}
 use Rattle.sheet.specs.Tests.{all-hold}
 use Rattle.sheet.specs.declared.record.ExponentSet.the-variants.{Reuse, New}

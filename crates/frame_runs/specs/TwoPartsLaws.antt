@@ -5,7 +5,7 @@ use mathlib.Core.Path.{_≡_, ap, _∙_}
 use native.Mathlib.Omega.{arith}
 use lib.ListN.{length, take, drop, replicate, length-append, length-take, length-drop, length-replicate, drop-of-length-le}
 use lib.Seq.{take-at, drop-at}
-use Rattle.bits.specs.Parts.{placed}
+use Rattle.bits.specs.PartsLaws.{placed}
 
 module _ (end : ℕ) (l front : List ℕ) (long : length l ≡ 256) (held : end ≤ 256) (n : length front ≡ end) where
   pub front-long : length (front ++ drop (end - 0) l) ≡ 256

@@ -4,9 +4,9 @@ ghost use mathlib.Core.List.{_++_};
 ghost use Prim.Native.Nat.{_+_, _*_, _≤_};
 ghost use lib.ListN.{length};
 ghost use Rattle.bits.specs.Answer.{stored};
-ghost use Rattle.bits.specs.Bytes.{bytesFor, bytesOf, wholeBytes};
+ghost use Rattle.bits.specs.Bytes.{bytesFor, bytesOf, after};
 ghost use Rattle.bits.specs.Field.{field};
-ghost use Rattle.bits.specs.Write.{Ready, Put, place, written, after};
+ghost use Rattle.bits.specs.Write.{Ready, Put, place, written, wholeBytes};
 ghost use Rattle.lent_writer.specs.Closed.{closedAt};
 
 // `BitWriter::write_u32(v, n)`: appends the low `n` bits of `v`, the highest first.

@@ -8,13 +8,13 @@ use lib.Dec.{eqb, leb}
 use lib.ListN.{length, replicate, length-drop}
 use borrow.Author.Tests.{eqb-true, leb-true, lt-ltb, le-ltb, eq-eqb, ne-eqb}
 use Rattle.bits.specs.Answer.{gives, turnedBack, outputOf}
-use Rattle.bits.specs.Bytes.{bytesFor, bytesOf}
+use Rattle.bits.specs.Bytes.{bytesFor, bytesOf, after}
 use Rattle.bits.specs.Parts.{joined, tab}
 use Rattle.bits.specs.Read.{from}
 use Rattle.bits.specs.Reading.{ok, fault}
 use Rattle.bits.specs.Refusal as refusal
 use Rattle.bits.specs.Tests.{both}
-use Rattle.bits.specs.Write.{Ready, Put, begun, place, written, after}
+use Rattle.bits.specs.Write.{Ready, Put, begun, place, written}
 use Rattle.bits.specs.WriteLaws.{step-stored, output-stored, output-left}
 use Rattle.bits.specs.declared.answer.Answer.{Answer}
 use Rattle.bits.specs.declared.write.Writer.{Writer}

@@ -9,10 +9,12 @@ use lib.ListN.{length, getD, set, replicate}
 use lib.Seq.{getD-set-same, getD-set-other, set-getD}
 use borrow.Author.Tests.{eqb-true, eqb-false}
 use Rattle.bits.specs.Tests.{by-bool}
-use Rattle.mantissas.specs.Inner.{Started}
-use Rattle.mantissas.specs.State.{update, at}
+use Rattle.mantissas.specs.Inner.{Started, LevelTable}
+use Rattle.mantissas.specs.State.{update}
+use Rattle.mantissas.specs.StateLaws.{at}
 use Rattle.mantissas.specs.Stream.{left}
-use Rattle.mantissas.specs.Ranges.{size, levels, width, groupSizes, LevelTable, row}
+use Rattle.mantissas.specs.Ranges.{size, levels, width, groupSizes}
+use Rattle.mantissas.specs.RangesLaws.{row}
 use Rattle.tables.specs.Entry.{entry}
 use Rattle.tables.specs.Quantizer.{quantizationBits}
 

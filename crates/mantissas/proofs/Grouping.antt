@@ -8,13 +8,14 @@ use native.Mathlib.Omega.{arith}
 use lib.ListN.{length, drop, getD, drop-of-length-le}
 use lib.Seq.{drop-cons}
 use Rattle.mantissas.proofs.Values.{pow-one}
-use Rattle.mantissas.specs.Inner.{groupAt}
+use Rattle.mantissas.specs.Inner.{groupAt, Coded}
 use Rattle.mantissas.specs.ReadBack.{ofBap-same, ofBap-other, ofBap-below, group-lt}
 use Rattle.mantissas.specs.Digits.{pack, padded}
 use Rattle.mantissas.specs.DigitsLaws.{length-padded}
 use Rattle.mantissas.specs.CodedLaws.{coded-drop}
-use Rattle.mantissas.specs.Stream.{Coded, ofBap, groupCode}
-use Rattle.mantissas.specs.Ranges.{size, levels, row}
+use Rattle.mantissas.specs.Stream.{ofBap, groupCode}
+use Rattle.mantissas.specs.Ranges.{size, levels}
+use Rattle.mantissas.specs.RangesLaws.{row}
 
 -- v of the codes before bin j, and n codes from there on, are the group at i
 pub record Grouping (bs cs : List ℕ) (b i j n v : ℕ) : Type 0 where

@@ -12,9 +12,8 @@ use Rattle.bits.specs.PartsLaws.{joined-more}
 use Rattle.bits.specs.Tests.{by-bool}
 use Rattle.mantissas.specs.Blocks.{partBaps, blockBaps}
 use Rattle.mantissas.specs.BlocksLaws.{block-most}
-use Rattle.mantissas.specs.Digits.{Below, nil, cons}
 use Rattle.mantissas.specs.Formula.{count, alone}
-use Rattle.mantissas.specs.Inner.{Ends}
+use Rattle.mantissas.specs.Inner.{Ends, Below, nil, cons}
 use Rattle.mantissas.specs.Stream.{bapsFit, bitCount}
 use Rattle.mantissas.specs.Tally.{tallyOf, tallyBits}
 use Rattle.mantissas.specs.TallyLaws.{tally-append, tally-bits}

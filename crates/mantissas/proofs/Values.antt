@@ -2,7 +2,8 @@
 use mathlib.Core.Path.{_≡_, sym, _∙_}
 use Prim.Native.Nat.{ℕ, _*_, _^_, _≤_, _<_}
 use native.Mathlib.Nat.{pow-zero, pow-suc, one-mul, one-le-pow, pow-le-pow-right, le-trans}
-use Rattle.mantissas.specs.Ranges.{size, levels, row}
+use Rattle.mantissas.specs.Ranges.{size, levels}
+use Rattle.mantissas.specs.RangesLaws.{row}
 
 bounded : (b n : ℕ) → b < 16 → n ≤ size b → (1 ≤ levels b ^ n) × (levels b ^ n ≤ 65536)
 bounded b n h l =

@@ -10,7 +10,8 @@ use lib.ListN.{length, take, getD}
 use lib.Seq.{take-suc, take-length}
 use Rattle.mantissas.specs.Calls.{mostEntries}
 use Rattle.mantissas.specs.Count.{bits-most}
-use Rattle.mantissas.specs.Digits.{Below, below-at}
+use Rattle.mantissas.specs.DigitsLaws.{below-at}
+use Rattle.mantissas.specs.Inner.{Below}
 use Rattle.mantissas.specs.Formula.{count, alone}
 use Rattle.mantissas.specs.Stream.{bitCount}
 use Rattle.mantissas.specs.Tally.{tallyOf, tallyBits}

@@ -16,7 +16,7 @@ use Rattle.bits.specs.declared.write.Writer.{Writer}
 use Rattle.mantissas.proofs.Arrays.{at-set, at-zeros, less-one, set-as-is, zero-width, zero-size}
 use Rattle.mantissas.specs.Inner.{groupAt}
 use Rattle.mantissas.specs.ReadBack.{ofBap-same}
-use Rattle.mantissas.specs.State.{at}
+use Rattle.mantissas.specs.StateLaws.{at}
 use Rattle.mantissas.specs.Stream.{ofBap, fieldAt, left, fields, stream}
 use Rattle.mantissas.specs.Ranges.{size, width}
 

@@ -9,7 +9,8 @@ use lib.ListN.{length, replicate}
 use Rattle.bits.specs.Field.{field}
 use Rattle.bits.specs.Parts.{joined}
 use Rattle.mantissas.specs.State.{update}
-use Rattle.mantissas.specs.Stream.{Coded, empty, bin, ofBap, fieldAt, left, fields, stream}
+use Rattle.mantissas.specs.Stream.{ofBap, fieldAt, left, fields, stream}
+use Rattle.mantissas.specs.Inner.{Coded, empty, bin}
 use Rattle.mantissas.specs.Ranges.{width}
 use Rattle.tables.specs.Entry.{entry}
 use Rattle.tables.specs.Quantizer.{quantizationBits}

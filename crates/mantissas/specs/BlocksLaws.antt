@@ -14,8 +14,8 @@ use Rattle.bits.specs.Refusal as refusal
 use Rattle.bits.specs.Tests.{by-bool}
 use Rattle.mantissas.specs.Blocks.{partBaps, blockBaps, blocksAnswer, totalAnswer}
 use Rattle.mantissas.specs.Count.{length-stream}
-use Rattle.mantissas.specs.Inner.{Ends}
-use Rattle.mantissas.specs.Stream.{Coded, bapsFit, stream, bitCount}
+use Rattle.mantissas.specs.Inner.{Ends, Coded}
+use Rattle.mantissas.specs.Stream.{bapsFit, stream, bitCount}
 use Rattle.sheet.specs.Common.{commonOf, channelsOf}
 use Rattle.sheet.specs.Layout.{bufferLength}
 use Rattle.sheet.specs.Record.{endsOf}

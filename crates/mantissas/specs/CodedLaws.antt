@@ -9,9 +9,9 @@ use lib.ListN.{length, take, drop}
 use borrow.Author.Tests.{lt-ltb, ltb-true}
 use Rattle.bits.specs.Parts.{joined}
 use Rattle.bits.specs.Tests.{both}
-use Rattle.mantissas.specs.Digits.{Below, nil, cons}
+use Rattle.mantissas.specs.Inner.{Below, nil, cons, Coded, empty, bin}
 use Rattle.mantissas.specs.Ranges.{levels}
-use Rattle.mantissas.specs.Stream.{Coded, empty, bin, coded, bapsFit}
+use Rattle.mantissas.specs.Stream.{coded, bapsFit}
 
 pub coded-length : {bs cs : List ℕ} → Coded bs cs → length bs ≡ length cs
 coded-length empty = refl

@@ -10,15 +10,20 @@ use borrow.Author.Tests.{eqb-true, eq-eqb, ne-eqb, ltb-true, ltb-false}
 use Rattle.bits.specs.FieldLaws.{length-field}
 use Rattle.bits.specs.Tests.{by-bool}
 use Rattle.mantissas.specs.CodedLaws.{coded-baps}
-use Rattle.mantissas.specs.Digits.{Below, nil, cons}
-use Rattle.mantissas.specs.Formula.{formula}
-use Rattle.mantissas.specs.State.{update, update-same, update-other}
-use Rattle.mantissas.specs.Stream.{Coded, empty, bin, ofBap, groupCode, fieldAt, left, fields, stream, cost, countFrom, bitCount}
-use Rattle.mantissas.specs.Ranges.{size, width, groupSizes, row}
+use Rattle.mantissas.specs.Inner.{Below, nil, cons, Coded, empty, bin}
+use Rattle.mantissas.specs.State.{update}
+use Rattle.mantissas.specs.StateLaws.{update-same, update-other}
+use Rattle.mantissas.specs.Stream.{ofBap, groupCode, fieldAt, left, fields, stream, cost, countFrom, bitCount}
+use Rattle.mantissas.specs.Ranges.{size, width, groupSizes}
+use Rattle.mantissas.specs.RangesLaws.{row}
 use Rattle.tables.specs.Entry.{entry}
 use Rattle.tables.specs.Quantizer.{quantizationBits}
 -- passed on, for those who cite the laws
 unfoldable pub use Rattle.mantissas.specs.Formula.{count, alone, sum}
+
+-- the whole formula: ⌈n/3⌉ is (n + 2) / 3, and ⌈n/2⌉ is (n + 1) / 2
+abbrev pub formula : List ℕ → ℕ
+formula bs = 5 * ((count 1 bs + 2) / 3) + 7 * ((count 2 bs + 2) / 3) + 7 * ((count 4 bs + 1) / 2) + alone bs
 
 pub length-fieldAt : (b n : ℕ) (l : List ℕ) → length (fieldAt b n l) ≡ cost b n
 unfolding fieldAt cost

@@ -2,11 +2,22 @@
 use mathlib.Core.Path.{_≡_, refl, ap}
 use mathlib.Core.List.{List, [], _∷_}
 use Prim.Native.Nat.{ℕ, zero, suc, _%_, _^_, _<_}
-use native.Mathlib.Nat.{pow-zero, pow-succ', one-le-pow, div-lt-iff-lt-mul, mod-lt}
+use native.Mathlib.Nat.{not-suc-le-zero, le-of-suc-le-suc, pow-zero, pow-succ', one-le-pow, div-lt-iff-lt-mul, mod-lt}
 use native.Mathlib.Omega.{arith}
 use lib.Arith.{digits-lt, digits-div, digits-mod}
-use lib.ListN.{length}
-use Rattle.mantissas.specs.Digits.{pack, digits, padded, Below, nil, cons}
+use lib.ListN.{length, getD}
+use Rattle.mantissas.specs.Digits.{pack, digits, padded}
+use Rattle.mantissas.specs.Inner.{Below, nil, cons}
+
+-- entries below a bound, by index
+pub below-at : {m : ℕ} {l : List ℕ} → Below m l → (i : ℕ) → i < length l → getD l i 0 < m
+below-at nil i h = absurd (not-suc-le-zero h)
+below-at (cons hx hl) zero h = hx
+below-at (cons hx hl) (suc i) h = below-at hl i (le-of-suc-le-suc h)
+
+pub below-all : {m : ℕ} (l : List ℕ) → ((i : ℕ) → i < length l → getD l i 0 < m) → Below m l
+below-all [] h = nil
+below-all (x ∷ l) h = cons (h 0 (omega arith)) (below-all l (λ i b. h (suc i) (omega arith)))
 
 pub length-padded : (n : ℕ) (l : List ℕ) → length (padded n l) ≡ n
 unfolding padded

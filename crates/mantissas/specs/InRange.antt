@@ -11,11 +11,13 @@ use Rattle.bits.specs.Readers.{fault-not-ok}
 use Rattle.bits.specs.ReadingLaws.{then-ok}
 use Rattle.bits.specs.Refusal as refusal
 use Rattle.bits.specs.Tests.{by-bool}
-use Rattle.mantissas.specs.Digits.{digits, Below, nil, cons}
+use Rattle.mantissas.specs.Digits.{digits}
+use Rattle.mantissas.specs.Inner.{Below, nil, cons, Coded, empty, bin}
 use Rattle.mantissas.specs.DigitsLaws.{digits-below}
-use Rattle.mantissas.specs.Ranges.{size, levels, width, row}
+use Rattle.mantissas.specs.Ranges.{size, levels, width}
+use Rattle.mantissas.specs.RangesLaws.{row}
 use Rattle.mantissas.specs.State.{update}
-use Rattle.mantissas.specs.Stream.{Coded, empty, bin, judged, readGroup, members, readFrom, readStream}
+use Rattle.mantissas.specs.Stream.{judged, readGroup, members, readFrom, readStream}
 
 -- what a reading gives is one value
 ok-value : {A : Type 0} (a b : A) (r s : List Bool) → _≡_ {A = Outcome A} (ok a r) (ok b s) → a ≡ b

@@ -7,14 +7,16 @@ use native.Mathlib.Nat.{lt-of-lt-of-le, not-suc-le-zero}
 use native.Mathlib.Omega.{arith}
 use lib.Dec.{eqb}
 use borrow.Author.Tests.{eqb-true, eqb-false, eq-eqb, ne-eqb, lt-ltb}
-use Rattle.bits.specs.Reading.{ok, Reads}
-use Rattle.bits.specs.ReadingLaws.{reads-bits, reads-same}
+use Rattle.bits.specs.Reading.{ok}
+use Rattle.bits.specs.ReadingLaws.{reads-bits, reads-same, Reads}
 use Rattle.bits.specs.Tests.{by-bool}
-use Rattle.mantissas.specs.Digits.{digits, padded, Below, nil, cons}
+use Rattle.mantissas.specs.Digits.{digits, padded}
+use Rattle.mantissas.specs.Inner.{Below, nil, cons, Coded, empty, bin}
 use Rattle.mantissas.specs.DigitsLaws.{length-padded, padded-below, pack-lt, digits-pack}
-use Rattle.mantissas.specs.Ranges.{size, levels, width, Row, row}
+use Rattle.mantissas.specs.Ranges.{size, levels, width}
+use Rattle.mantissas.specs.RangesLaws.{Row, row}
 use Rattle.mantissas.specs.State.{update}
-use Rattle.mantissas.specs.Stream.{Coded, empty, bin, ofBap, groupCode, fieldAt, left, fields, stream, judged, readGroup, members, readFrom, readStream}
+use Rattle.mantissas.specs.Stream.{ofBap, groupCode, fieldAt, left, fields, stream, judged, readGroup, members, readFrom, readStream}
 
 -- ---- the codes of one bap
 

@@ -2,7 +2,7 @@
 -- A field stands where the first code of its group is, and holds the next codes of its bap, up to the end of the list; missing members are 0.
 use mathlib.Core.Bool.{Bool, true, false, _&&_, cond}
 use mathlib.Core.List.{List, [], _∷_, _++_, headD, tail}
-use Prim.Native.Nat.{ℕ, zero, suc, _+_, _-_, _^_, _<_}
+use Prim.Native.Nat.{ℕ, zero, suc, _+_, _-_, _^_}
 use lib.Dec.{eqb, ltb}
 use Rattle.bits.specs.Field.{field, odd, readField, takeField, bitVal}
 use Rattle.bits.specs.Reading.{Outcome, ok, fault, then, orPast, readBits}
@@ -16,11 +16,6 @@ use Rattle.tables.specs.Quantizer.{quantizationBits, levelCount}
 -- ---- what can be written (document 01, "Mantissas": "Codes for bap 0..5: 0; 0..2; .. From 6 on: all values of the width")
 
 -- as many codes as baps, each bap at most 15, each code one of its bap's
-pub data Coded : List ℕ → List ℕ → Type 0 where
-  empty : Coded [] []
-  bin : {b c : ℕ} {bs cs : List ℕ} → b < 16 → c < levels b → Coded bs cs → Coded (b ∷ bs) (c ∷ cs)
-
--- the same as a test, for the refusals (`coded-true` and `coded-is` in CodedLaws.antt)
 unfoldable pub coded : List ℕ → List ℕ → Bool
 coded [] [] = true
 coded [] (c ∷ cs) = false
@@ -66,7 +61,7 @@ unfoldable pub stream : List ℕ → List ℕ → List Bool
 unfolding fieldAt left fields groupCode ofBap update pack padded size levels width groupSizes quantizationBits levelCount entry field odd
 stream bs cs = fields (λ k. 0) bs cs
 
--- ---- counting, with the same state (the Rust's `mantissa_bits_total_ends`; document 01's formula for it is in Formula.antt)
+-- ---- counting, with the same state (the Rust's `mantissa_bits_total_ends`; that it is document 01's formula: Count.antt)
 
 -- the bits of the field at a bin, if one begins there
 unfoldable pub cost : ℕ → ℕ → ℕ

@@ -8,7 +8,7 @@ use lib.ListN.{length}
 use Rattle.bits.specs.Tests.{by-bool}
 use Rattle.mantissas.specs.Calls.{mostEntries}
 use Rattle.mantissas.specs.Count.{bit-count}
-use Rattle.mantissas.specs.Digits.{Below, nil, cons}
+use Rattle.mantissas.specs.Inner.{Below, nil, cons}
 use Rattle.mantissas.specs.Formula.{count, alone}
 use Rattle.mantissas.specs.Stream.{bitCount}
 use Rattle.mantissas.specs.Tally.{tallyOf, tallyBits}

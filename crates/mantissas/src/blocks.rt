@@ -10,8 +10,7 @@ ghost use Prim.Native.Nat.{_<_};
 ghost use lib.ListN.{length};
 ghost use Rattle.bits.specs.Parts.{joined, tab};
 ghost use Rattle.mantissas.specs.Blocks.{blockBaps, noBits, blocksAnswer, totalAnswer};
-ghost use Rattle.mantissas.specs.Digits.{Below};
-ghost use Rattle.mantissas.specs.Inner.{Ends};
+ghost use Rattle.mantissas.specs.Inner.{Ends, Below};
 ghost use Rattle.mantissas.specs.Stream.{bapsFit, bitCount};
 ghost use Rattle.sheet.specs.Layout.{bufferLength};
 

@@ -3,7 +3,8 @@ ghost use mathlib.Core.Path.{_≡_};
 ghost use Prim.Native.Nat.{_^_, _≤_, _<_};
 ghost use lib.ListN.{length};
 ghost use Rattle.mantissas.specs.Calls.{oneLength};
-ghost use Rattle.mantissas.specs.Ranges.{size, levels, width, groupSizes, LevelTable};
+ghost use Rattle.mantissas.specs.Ranges.{size, levels, width, groupSizes};
+ghost use Rattle.mantissas.specs.Inner.{LevelTable};
 ghost use Rattle.mantissas.specs.Stream.{coded, bapsFit};
 
 // A/52 7.3.5: the codes that share a field.

@@ -3,7 +3,7 @@ ghost use mathlib.Core.Path.{_≡_};
 ghost use Prim.Native.Nat.{_+_, _*_, _^_, _≤_, _<_};
 ghost use lib.ListN.{length};
 ghost use Rattle.mantissas.specs.Calls.{mostEntries};
-ghost use Rattle.mantissas.specs.Digits.{Below};
+ghost use Rattle.mantissas.specs.Inner.{Below};
 ghost use Rattle.mantissas.specs.Stream.{bitCount};
 ghost use Rattle.mantissas.specs.Tally.{tallyOf, tallyBits};
 

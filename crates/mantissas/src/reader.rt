@@ -18,11 +18,9 @@ ghost use mathlib.Core.Path.{_≡_};
 ghost use Prim.Native.Nat.{_+_, _*_, _/_, _%_, _^_, _≤_, _<_};
 ghost use lib.ListN.{length};
 ghost use Rattle.bits.specs.Field.{bitsOf};
-ghost use Rattle.bits.specs.Read.{from};
-ghost use Rattle.bits.specs.Reading.{Came};
+ghost use Rattle.bits.specs.Read.{from, Came};
 ghost use Rattle.mantissas.specs.Calls.{mostEntries, readAnswer, codesAfter};
-ghost use Rattle.mantissas.specs.Digits.{Below};
-ghost use Rattle.mantissas.specs.Inner.{GroupRead};
+ghost use Rattle.mantissas.specs.Inner.{GroupRead, Below};
 ghost use Rattle.mantissas.specs.Stream.{readStream};
 
 // The value of a group of bap b at pos, or the fault's number.

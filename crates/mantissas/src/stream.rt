@@ -17,9 +17,9 @@ ghost use lib.ListN.{length, getD};
 ghost use Rattle.bits.specs.Answer.{outputOf};
 ghost use Rattle.bits.specs.Write.{Ready, Put};
 ghost use Rattle.mantissas.specs.Calls.{writeAnswer};
-ghost use Rattle.mantissas.specs.Inner.{groupAt};
+ghost use Rattle.mantissas.specs.Inner.{groupAt, Coded};
 ghost use Rattle.mantissas.specs.Ranges.{size, levels};
-ghost use Rattle.mantissas.specs.Stream.{Coded, stream};
+ghost use Rattle.mantissas.specs.Stream.{stream};
 
 // Document 01, "Mantissas": missing members are 0.
 const MISSING: u32 = 0;

@@ -8,7 +8,8 @@ use lib.Bits.{bitAnd, and-mask}
 use lib.Dec.{T, leb→le, lit<}
 use lib.Ieee.{Float, nan, inf, fin, up, down, lt}
 use lib.Ieee.Positive.{num, den, den-pos}
-use Rattle.quantiser.specs.Scale.{zero32, within}
+use Rattle.quantiser.specs.Scale.{zero32}
+use Rattle.quantiser.specs.Inner.{within}
 use Rattle.quantiser.specs.Asymmetric.{halfAway, signedCode}
 
 -- ---- a half up, by two whole parts

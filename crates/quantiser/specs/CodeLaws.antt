@@ -15,7 +15,8 @@ use lib.ListN.{length, getD}
 use lib.Pow.{pow-pos, pow-mono}
 use Rattle.bits.specs.Answer.{gives, turnedBack}
 use Rattle.bits.specs.Refusal as refusal
-use Rattle.mantissas.specs.Ranges.{levels as codeCount, row}
+use Rattle.mantissas.specs.Ranges.{levels as codeCount}
+use Rattle.mantissas.specs.RangesLaws.{row}
 use Rattle.tables.specs.Computed.{allBelow, at-index}
 use Rattle.tables.specs.Entry.{entry}
 use Rattle.tables.specs.Quantizer.{levels, levelsFrom, levelCount, levelCounts, quantizationBits}

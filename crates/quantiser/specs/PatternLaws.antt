@@ -18,7 +18,8 @@ use lib.Ieee.Positive.{num, den}
 use borrow.Author.Tests.{le-ltb, ltb-false}
 use Rattle.bits.specs.Tests.{by-bool}
 use Rattle.shaping.specs.FloatLaws.{smallest, smallest-exact, digits-below, biased-is, finite-number}
-use Rattle.quantiser.specs.Scale.{zero32, within}
+use Rattle.quantiser.specs.Scale.{zero32}
+use Rattle.quantiser.specs.Inner.{within}
 use Rattle.quantiser.specs.ScaleLaws.{within-finite}
 use Rattle.quantiser.specs.Asymmetric.{halfAway, signedCode}
 use Rattle.quantiser.specs.AsymmetricLaws.{at-most-one, code-above, code-below, code-zero}

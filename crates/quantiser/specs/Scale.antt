@@ -1,11 +1,10 @@
 -- The mantissa of a coefficient (document 01, "Mantissas": "finite coefficient times 2^exponent, held to -1..1"), as an f32.
 -- A/52 7.1 has it the other way round: a coefficient is mantissa × 2^-exponent.
 -- Values and operations are the library's account of IEEE 754 binary32.
-use mathlib.Core.Bool.{Bool, false, cond}
-use Prim.Native.Nat.{ℕ, _*_, _^_}
-use lib.Dec.{leb}
+use mathlib.Core.Bool.{cond}
+use Prim.Native.Nat.{ℕ, _^_}
 use lib.IntN.{pos}
-use lib.Ieee.{Float, nan, inf, fin, binary32, mul, lt, ofInt, ofBits, up, down}
+use lib.Ieee.{Float, binary32, mul, lt, ofInt, ofBits}
 
 -- +0, 1 and -1, by their patterns
 abbrev pub zero32 : Float
@@ -25,9 +24,3 @@ held m = cond (lt m minusOne32) minusOne32 (cond (lt one32 m) one32 m)
 unfoldable pub scaled : Float → ℕ → Float
 unfolding held
 scaled coeff exponent = held (mul binary32 coeff (ofInt binary32 (pos (2 ^ exponent))))
-
--- finite and -1 to 1, as every mantissa of a finite coefficient is (`scaled-within` in ScaleLaws.antt): what the inner functions ask
-unfoldable pub within : Float → Bool
-within nan = false
-within (inf s) = false
-within (fin s m e) = leb (m * up e) (down e)

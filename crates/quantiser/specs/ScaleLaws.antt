@@ -16,7 +16,8 @@ use lib.Ieee.Fits.{down-pos, round-is}
 use lib.Ieee.Exact.{HasValue}
 use Rattle.shaping.specs.ExtractLaws.{digits-from}
 use Rattle.quantiser.specs.FloatLaws.{mul-is, scale-exact, pow-float}
-use Rattle.quantiser.specs.Scale.{one32, minusOne32, held, scaled, within}
+use Rattle.quantiser.specs.Scale.{one32, minusOne32, held, scaled}
+use Rattle.quantiser.specs.Inner.{within}
 
 -- ---- a finite value times a power of two, held to -1..1, is within -1..1
 pub units-no-nan : (s : Bool) (q k : ℕ) → T (not (isNan (units binary32 s q k)))

@@ -4,7 +4,7 @@ ghost use mathlib.Core.Path.{_≡_};
 ghost use Prim.Native.Nat.{_-_, _*_, _^_, _≤_, min};
 ghost use lib.Dec.{T};
 ghost use lib.Ieee.Positive.{num, den};
-ghost use Rattle.quantiser.specs.Scale.{within};
+ghost use Rattle.quantiser.specs.Inner.{within};
 ghost use Rattle.quantiser.specs.Asymmetric.{halfAway, signedCode};
 use crate::scale::power;
 

@@ -7,7 +7,8 @@ use native.Mathlib.Numerals.{unary-clauses}
 use native.Mathlib.Decide.{decLt}
 use lib.ListN.{length, take, drop, getD, length-append, length-drop, length-replicate, getD-replicate, List·getD-append, List·getD-eq-default}
 use lib.Seq.{getD-append-add, take-append-add, length-take-le}
-use Rattle.bits.specs.Parts.{tab, placed}
+use Rattle.bits.specs.Parts.{tab}
+use Rattle.bits.specs.PartsLaws.{placed}
 use Rattle.shaping.specs.Reach.{free, padded}
 
 length-free : (k : ℕ) → length (free k) ≡ k

@@ -8,8 +8,7 @@ use native.Mathlib.Decide.{decLt}
 use lib.ListN.{length, take, getD, List·getD-eq-default}
 use Rattle.bits.specs.Parts.{tab}
 use Rattle.bits.specs.PartsLaws.{length-tab, getD-tab}
-use Rattle.shaping.specs.Shaped.{Follows, Shaped}
-use Rattle.shaping.specs.Greatest.{Below, Greatest}
+use Rattle.shaping.specs.Greatest.{Below, Greatest, Follows, Shaped}
 use Rattle.shaping.specs.GreatestLaws.{below-at, at-below, below-both}
 use Rattle.shaping.specs.Passes.{d15}
 use Rattle.shaping.specs.PassLaws.{d15-greatest}

@@ -1,14 +1,14 @@
--- Exponents of coefficients, shaped for a strategy: document 01, "Exponents"; A/52 7.1. First what a reader must believe, in the order of
--- that section.
+-- Exponents of coefficients, shaped for a strategy: document 01, "Exponents"; A/52 7.1. First what a reader must believe.
 pub mod Pattern
 pub mod Extract
 pub mod Shaped
-pub mod Greatest
 pub mod Passes
 pub mod Groups
 pub mod Strategies
--- Then the code's forms of D15, the laws, and the starred cases.
+-- Then what follows from it: the greatest that is shaped, the code's forms of D15, what the inner functions ask, the laws, and the starred cases.
+pub mod Greatest
 pub mod Reach
+pub mod Inner
 pub mod FloatLaws
 pub mod ExtractLaws
 pub mod GreatestLaws

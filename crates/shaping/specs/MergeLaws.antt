@@ -4,8 +4,7 @@ use mathlib.Core.List.{List, [], _∷_}
 use Prim.Native.Nat.{ℕ, zero, suc, _≤_, min}
 use native.Mathlib.Omega.{arith}
 use lib.ListN.{length}
-use Rattle.shaping.specs.Shaped.{Follows}
-use Rattle.shaping.specs.Greatest.{Below}
+use Rattle.shaping.specs.Greatest.{Below, Follows}
 use Rattle.shaping.specs.Passes.{least, merged}
 
 -- the least of a span is not below what is constant on the span and not above it

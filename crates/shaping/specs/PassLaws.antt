@@ -4,8 +4,7 @@ use mathlib.Core.List.{List, [], _∷_}
 use Prim.Native.Nat.{ℕ, zero, suc, _+_, _≤_}
 use native.Mathlib.Omega.{arith}
 use lib.ListN.{length}
-use Rattle.shaping.specs.Shaped.{Follows, Shaped}
-use Rattle.shaping.specs.Greatest.{Below, Greatest}
+use Rattle.shaping.specs.Greatest.{Below, Greatest, Follows, Shaped}
 use Rattle.shaping.specs.GreatestLaws.{below-trans}
 use Rattle.shaping.specs.Passes.{under, backward, held, forward, first, led, d15, lowerSpans, merged, spanned}
 

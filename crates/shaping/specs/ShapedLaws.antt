@@ -1,19 +1,56 @@
--- Laws of shaped exponents: none is above 24, as allocation and mantissas ask; and what document 01, "Exponents", says that the accepted
--- calls leave.
+-- Laws of shaped exponents: the test holds exactly where they are shaped; none is above 24, as allocation and mantissas ask; and what
+-- document 01, "Exponents", says that the accepted calls leave.
 use mathlib.Core.Path.{_≡_, refl}
 use mathlib.Core.Bool.{true}
 use mathlib.Core.List.{List, [], _∷_}
 use mathlib.Core.Logic.{_⊎_, ⊎-elim}
-use Prim.Native.Nat.{ℕ, zero, suc, _-_, _%_, _≤_}
+use Prim.Native.Nat.{ℕ, zero, suc, _+_, _-_, _%_, _≤_}
 use native.Mathlib.Omega.{arith}
+use lib.Dec.{leb, eqb}
 use lib.ListN.{length, getD}
-use borrow.Author.Tests.{le-leb}
-use Rattle.shaping.specs.Shaped.{Follows, Shaped}
-use Rattle.shaping.specs.Greatest.{Greatest}
+use borrow.Author.Tests.{leb-true, eqb-true, le-leb, eq-eqb}
+use Rattle.bits.specs.Tests.{both}
+use Rattle.shaping.specs.Shaped.{follows, shapedFor}
+use Rattle.shaping.specs.Greatest.{Greatest, Follows, Shaped}
 use Rattle.shaping.specs.GreatestLaws.{greatest-unique, below-at}
 use Rattle.shaping.specs.Passes.{d15, spanned, isSpan, preprocessed, quantised}
 use Rattle.shaping.specs.PassLaws.{d15-greatest, spanned-after}
 use Rattle.shaping.specs.SpanLaws.{spanned-greatest}
+
+-- ---- the test holds exactly where they are shaped
+
+pub follows-yes : (h j p : ℕ) (xs : List ℕ) → follows h j p xs ≡ true → Follows h j p xs
+unfolding follows
+follows-yes h j p [] e = tt
+follows-yes h zero p (x ∷ r) e =
+    let a = both (leb x (p + 2)) _ e in
+    let b = both (leb p (x + 2)) _ (a .1) in
+    let c = both (leb x 24) _ (b .1) in
+    (leb-true x (p + 2) (a .0), leb-true p (x + 2) (b .0), leb-true x 24 (c .0), follows-yes h h x r (c .1))
+follows-yes h (suc j) p (x ∷ r) e =
+    let a = both (eqb x p) _ e in
+    (eqb-true x p (a .0), follows-yes h j p r (a .1))
+
+pub follows-of : (h j p : ℕ) (xs : List ℕ) → Follows h j p xs → follows h j p xs ≡ true
+unfolding follows
+follows-of h j p [] s = refl
+follows-of h zero p (x ∷ r) s =
+    rw (le-leb x (p + 2) (s .0), le-leb p (x + 2) (s .1), le-leb x 24 (s .2)) (follows-of h h x r (s .3))
+follows-of h (suc j) p (x ∷ r) s = rw (eq-eqb x p (s .0)) (follows-of h j p r (s .1))
+
+pub shaped-yes : (h : ℕ) (xs : List ℕ) → shapedFor h xs ≡ true → Shaped h xs
+unfolding shapedFor
+shaped-yes h [] e = tt
+shaped-yes h (x ∷ r) e =
+    let a = both (leb x 15) _ e in
+    (leb-true x 15 (a .0), follows-yes h 0 x r (a .1))
+
+pub shaped-of : (h : ℕ) (xs : List ℕ) → Shaped h xs → shapedFor h xs ≡ true
+unfolding shapedFor
+shaped-of h [] s = refl
+shaped-of h (x ∷ r) s = rw (le-leb x 15 (s .0)) (follows-of h 0 x r (s .1))
+
+-- ---- none is above 24
 
 follows-at-most : (h j p : ℕ) (xs : List ℕ) → p ≤ 24 → Follows h j p xs → (i : ℕ) → getD xs i 0 ≤ 24
 follows-at-most h j p [] k s i = omega arith

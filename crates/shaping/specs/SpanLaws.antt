@@ -11,8 +11,7 @@ use native.Mathlib.Numerals.{sub-one}
 use borrow.Author.Tests.{ltb-true, ltb-false}
 use lib.Dec.{ltb}
 use lib.ListN.{length, drop, replicate, length-drop}
-use Rattle.shaping.specs.Shaped.{Follows}
-use Rattle.shaping.specs.Greatest.{Below, Greatest}
+use Rattle.shaping.specs.Greatest.{Below, Greatest, Follows}
 use Rattle.shaping.specs.GreatestLaws.{below-refl, below-trans}
 use Rattle.shaping.specs.Passes.{roof, under, backward, least, merged, countDown, lacks, lowered, frontLowered, lowerSpans, spanned}
 use Rattle.shaping.specs.PassLaws.{Steep, Runs, Lowers, led-greatest, backward-below, backward-steep}

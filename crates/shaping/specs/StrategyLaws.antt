@@ -1,4 +1,4 @@
--- What an accepted `select_exp_strategies_per_end` may rely on: up to six channels, each end at most 256, and the whole exponent buffer.
+-- An accepted `select_exp_strategies_per_end` may rely on `Selectable` (Inner.antt); and the answers of `pick_strategy_for_block`.
 use mathlib.Core.Path.{_≡_, refl}
 use mathlib.Core.Bool.{Bool, true, false, not, cond, _&&_}
 use mathlib.Core.List.{List, [], _∷_}
@@ -11,12 +11,8 @@ use borrow.Author.Tests.{leb-true, eqb-true}
 use Rattle.bits.specs.Answer.{gives, turnedBack}
 use Rattle.bits.specs.Refusal as refusal
 use Rattle.bits.specs.Tests.{both}
+use Rattle.shaping.specs.Inner.{Selectable}
 use Rattle.shaping.specs.Strategies.{perBin, picked, pickAnswer, endsHeld, selectRefusal}
-
-pub record Selectable (exps ends : List ℕ) : Type 0 where
-  pub few : length ends ≤ 6
-  pub held : (i : ℕ) → getD ends i 0 ≤ 256
-  pub whole : length exps ≡ 6 * length ends * 256
 
 held-at : (ends : List ℕ) → endsHeld ends ≡ true → (i : ℕ) → getD ends i 0 ≤ 256
 unfolding endsHeld

@@ -3,7 +3,7 @@ ghost use mathlib.Core.Path.{_≡_};
 ghost use Prim.Native.Nat.{_<_};
 ghost use lib.ListN.{length};
 ghost use Rattle.shaping.specs.Strategies.{picked, endsHeld, selectRefusal, blockExponents, strategyRow, selected};
-ghost use Rattle.shaping.specs.StrategyLaws.{Selectable};
+ghost use Rattle.shaping.specs.Inner.{Selectable};
 use crate::strategies::strategy_of;
 
 fn wide(x: u16) -> usize

@@ -40,8 +40,8 @@ use denote.Triple.Call.{calls-at}
 use denote.Triple.Clauses.{ensured, lasts}
 use denote.Triple.Table.{entered, cited}
 use denote.Triple.Walked.{says, needs, Stays, stay-ref, gave-slice, walkOf, goes-ref, goes-gave-slice, Walks, ends-at, walked, walk-meets}
-use Rattle.bits.specs.Bytes.{bytesFor, bytesOf}
-use Rattle.bits.specs.Write.{Ready, place, written, after}
+use Rattle.bits.specs.Bytes.{bytesFor, bytesOf, after}
+use Rattle.bits.specs.Write.{Ready, place, written}
 use Rattle.bits.specs.declared.write.Writer.{Writer}
 use Rattle.bits.proofs.write.Writer as T
 use Rattle.bits.proofs.write.Writer.Laws as T′

@@ -44,9 +44,9 @@ use denote.Triple.Table.{entered, cited}
 use denote.Triple.Walked.{says, Stays, stay-none, gave-slice, walkOf, goes-none, goes-gave-slice, Walks, ends-at, walked, walk-meets}
 use denote.Exit.{yes}
 use Rattle.bits.specs.Answer.{stored}
-use Rattle.bits.specs.Bytes.{bytesFor, bytesOf, wholeBytes}
+use Rattle.bits.specs.Bytes.{bytesFor, bytesOf, after}
 use Rattle.bits.specs.Field.{field}
-use Rattle.bits.specs.Write.{Ready, Put, place, written, after, begun}
+use Rattle.bits.specs.Write.{Ready, Put, place, written, begun, wholeBytes}
 use Rattle.bits.specs.WriteLaws.{step-stored}
 use Rattle.bits.specs.declared.write.Writer.{Writer}
 use Rattle.bits.proofs.write.Writer as T

@@ -40,9 +40,9 @@ use denote.Triple.Clauses.{ensured, lasts}
 use denote.Triple.Table.{entered, cited}
 use denote.Triple.Walked.{Stays, stay-ref, stay-none, gave-slice, walkOf, goes-ref, goes-none, goes-gave-slice, Walks, ends-at, walked, walk-meets}
 use denote.Exit.{yes}
-use Rattle.bits.specs.Bytes.{wholeBytes}
+use Rattle.bits.specs.Bytes.{after}
 use Rattle.bits.specs.Field.{field}
-use Rattle.bits.specs.Write.{Ready, Put, place, written, after}
+use Rattle.bits.specs.Write.{Ready, Put, place, written, wholeBytes}
 use Rattle.bits.specs.declared.write.Writer.{Writer}
 use Rattle.bits.proofs.write.Writer as T
 use Rattle.bits.proofs.write.Writer.Laws as T′

@@ -2,7 +2,7 @@
 use mathlib.Core.Path.{_≡_, _∙_}
 use Prim.Native.Nat.{_-_, _≤_}
 use lib.ListN.{length, getD}
-use Rattle.mantissas.specs.Ranges.{LevelTable}
+use Rattle.mantissas.specs.Inner.{LevelTable}
 use Rattle.mantissas.specs.Stream.{coded}
 use Rattle.mantissas.proofs.Arrays.{level-listed}
 use Rattle.mantissas.proofs.Checking.{codedFrom, coded-start, coded-next, coded-bap, coded-code, coded-end}

@@ -1,5 +1,5 @@
 -- The list as it stands.
-use Rattle.mantissas.specs.Ranges.{levelList, level-list}
+use Rattle.mantissas.specs.RangesLaws.{levelList, level-list}
 use Rattle.mantissas.proofs.code.level_table.Statement.{statement}
 use Rattle.mantissas.proofs.code.level_table.Tie as tie
 

@@ -1,6 +1,6 @@
 -- The list has the levels of all sixteen baps, and their bounds.
 use borrow.Author.Needs.{needs}
-use Rattle.mantissas.specs.Ranges.{levelList, level-list, row}
+use Rattle.mantissas.specs.RangesLaws.{levelList, level-list, row}
 use Rattle.tables.specs.Entry.{entry}
 use Rattle.mantissas.proofs.code.levels.Statement.{statement}
 use Rattle.mantissas.proofs.code.levels.Tie as tie

@@ -1,7 +1,8 @@
 -- The element read is the list's entry, and its bounds hold of all sixteen.
 use mathlib.Core.Path.{refl}
 use borrow.Author.Needs.{needs}
-use Rattle.mantissas.specs.Ranges.{size, groupSizes, row}
+use Rattle.mantissas.specs.Ranges.{size, groupSizes}
+use Rattle.mantissas.specs.RangesLaws.{row}
 use Rattle.tables.specs.Entry.{entry}
 use Rattle.mantissas.proofs.code.size.Statement.{statement}
 use Rattle.mantissas.proofs.code.size.Tie as tie

@@ -1,7 +1,8 @@
 -- The powers 0 to 3 of the levels, each within the whole group's.
 use mathlib.Core.Path.{_≡_}
 use Prim.Native.Nat.{_*_, _^_, _≤_}
-use Rattle.mantissas.specs.Ranges.{levels, row}
+use Rattle.mantissas.specs.Ranges.{levels}
+use Rattle.mantissas.specs.RangesLaws.{row}
 use Rattle.mantissas.proofs.Values.{value-is, none-left, one-left, two-left, three-left}
 use native.Mathlib.Nat.{mul-le-mul-left}
 use native.Mathlib.Omega.{arith}

@@ -1,6 +1,7 @@
 -- The table's entry, and its bound.
 use borrow.Author.Needs.{needs}
-use Rattle.mantissas.specs.Ranges.{width, row}
+use Rattle.mantissas.specs.Ranges.{width}
+use Rattle.mantissas.specs.RangesLaws.{row}
 use Rattle.mantissas.proofs.code.width.Statement.{statement}
 use Rattle.mantissas.proofs.code.width.Tie as tie
 

@@ -4,7 +4,7 @@ use Prim.Native.Nat.{_+_, _-_, _*_, _^_, _≤_}
 use native.Mathlib.Omega.{arith}
 use lib.ListN.{length, take}
 use borrow.Author.Needs.{needs}
-use Rattle.mantissas.specs.Digits.{below-at}
+use Rattle.mantissas.specs.DigitsLaws.{below-at}
 use Rattle.mantissas.specs.Tally.{tallyOf}
 use Rattle.mantissas.proofs.Weighing.{bin-most, weigh-start, weigh-turn, weigh-end}
 use Rattle.mantissas.proofs.count.weigh.Statement.{statement}

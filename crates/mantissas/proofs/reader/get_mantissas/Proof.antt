@@ -6,7 +6,7 @@ use lib.ListN.{length, getD, length-set}
 use borrow.Author.Needs.{needs}
 use Rattle.bits.specs.Field.{bitsOf}
 use Rattle.bits.specs.FieldLaws.{length-bitsOf}
-use Rattle.mantissas.specs.Digits.{below-at}
+use Rattle.mantissas.specs.DigitsLaws.{below-at}
 use Rattle.mantissas.specs.Inner.{Started}
 use Rattle.mantissas.proofs.Arrays.{started-zeros, started-set}
 use Rattle.mantissas.proofs.Reading.{Reading, read-start, read-new, read-old, read-fault, read-end}

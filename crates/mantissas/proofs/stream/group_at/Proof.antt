@@ -5,8 +5,8 @@ use lib.ListN.{length, getD}
 use native.Mathlib.Omega.{arith}
 use borrow.Author.Needs.{needs}
 use Rattle.mantissas.specs.CodedLaws.{coded-baps, coded-length}
-use Rattle.mantissas.specs.Digits.{below-at}
-use Rattle.mantissas.specs.Ranges.{row}
+use Rattle.mantissas.specs.DigitsLaws.{below-at}
+use Rattle.mantissas.specs.RangesLaws.{row}
 use Rattle.mantissas.proofs.Grouping.{Grouping, group-start, group-pad, group-take, group-skip, group-end, group-room}
 use Rattle.mantissas.proofs.stream.group_at.Statement.{statement}
 use Rattle.mantissas.proofs.stream.group_at.Tie as tie

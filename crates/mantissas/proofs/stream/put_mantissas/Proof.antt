@@ -2,10 +2,12 @@
 use mathlib.Core.Path.{_≡_, refl, _∙_}
 use Prim.Native.Nat.{_-_, _≤_}
 use lib.ListN.{length, getD, length-set}
-use Rattle.mantissas.specs.Digits.{below-at}
+use Rattle.mantissas.specs.DigitsLaws.{below-at}
 use Rattle.mantissas.specs.CodedLaws.{coded-baps, coded-length}
 use Rattle.tables.specs.Quantizer.{quantizationBits}
-use Rattle.mantissas.specs.Ranges.{groupSizes, LevelTable, row}
+use Rattle.mantissas.specs.Ranges.{groupSizes}
+use Rattle.mantissas.specs.Inner.{LevelTable}
+use Rattle.mantissas.specs.RangesLaws.{row}
 use Rattle.mantissas.proofs.Arrays.{sizes-long, size-listed, level-listed, some-size, widths-long, width-listed}
 use Rattle.mantissas.proofs.Writing.{Writing, write-start, write-ready, write-none, write-new, write-old, write-end}
 use native.Mathlib.Omega.{arith}
