@@ -4,11 +4,6 @@ ghost use Prim.Native.Nat.{_≤_};
 ghost use lib.ListN.{length};
 ghost use Rattle.tables.specs.Quantizer.{levels, levelCount};
 ghost use Rattle.quantiser.specs.Symmetric.{distance, nearestOf};
-use tables::quantizer::MANT_LEVEL_3;
-use tables::quantizer::MANT_LEVEL_5;
-use tables::quantizer::MANT_LEVEL_7;
-use tables::quantizer::MANT_LEVEL_11;
-use tables::quantizer::MANT_LEVEL_15;
 
 // |m - level|, by a rounded f32 difference.
 fn distance_to(m: f32, level: f32) -> f32
@@ -43,10 +38,10 @@ pub fn level_code(m: f32, bap: u8) -> u32
     ensures { λ r. ⌜ r ≡ nearestOf m (levels (levelCount bap)) ⌝ }
 {
     match bap {
-        1 => nearest_symmetric(m, &MANT_LEVEL_3),
-        2 => nearest_symmetric(m, &MANT_LEVEL_5),
-        3 => nearest_symmetric(m, &MANT_LEVEL_7),
-        4 => nearest_symmetric(m, &MANT_LEVEL_11),
-        _ => nearest_symmetric(m, &MANT_LEVEL_15),
+        1 => nearest_symmetric(m, &tables::mant_level_3()),
+        2 => nearest_symmetric(m, &tables::mant_level_5()),
+        3 => nearest_symmetric(m, &tables::mant_level_7()),
+        4 => nearest_symmetric(m, &tables::mant_level_11()),
+        _ => nearest_symmetric(m, &tables::mant_level_15()),
     }
 }

@@ -2,7 +2,7 @@
 ghost use mathlib.Core.Path.{_≡_};
 ghost use Prim.Native.Nat.{_≤_, _<_};
 ghost use Rattle.tables.specs.Entry.{entry};
-ghost use Rattle.tables.specs.Quantizer.{baptab, quantizationBits, levelCount, level};
+ghost use Rattle.tables.specs.Quantizer.{baptab, quantizationBits, levelCount, level, levels};
 
 // Table 7.16
 const BAPTAB: [u8; 64] = [
@@ -76,13 +76,13 @@ const BAPTAB: [u8; 64] = [
 const QUANTIZATION_BITS: [u8; 16] = [0, 5, 7, 3, 7, 4, 5, 6, 7, 8, 9, 10, 11, 12, 14, 16];
 
 // Table 7.19, bap 1
-pub const MANT_LEVEL_3: [f32; 3] = [-2.0 / 3.0, 0.0, 2.0 / 3.0];
+const MANT_LEVEL_3: [f32; 3] = [-2.0 / 3.0, 0.0, 2.0 / 3.0];
 
 // Table 7.20, bap 2
-pub const MANT_LEVEL_5: [f32; 5] = [-4.0 / 5.0, -2.0 / 5.0, 0.0, 2.0 / 5.0, 4.0 / 5.0];
+const MANT_LEVEL_5: [f32; 5] = [-4.0 / 5.0, -2.0 / 5.0, 0.0, 2.0 / 5.0, 4.0 / 5.0];
 
 // Table 7.21, bap 3
-pub const MANT_LEVEL_7: [f32; 7] = [
+const MANT_LEVEL_7: [f32; 7] = [
     -6.0 / 7.0,
     -4.0 / 7.0,
     -2.0 / 7.0,
@@ -93,7 +93,7 @@ pub const MANT_LEVEL_7: [f32; 7] = [
 ];
 
 // Table 7.22, bap 4
-pub const MANT_LEVEL_11: [f32; 11] = [
+const MANT_LEVEL_11: [f32; 11] = [
     -10.0 / 11.0,
     -8.0 / 11.0,
     -6.0 / 11.0,
@@ -108,7 +108,7 @@ pub const MANT_LEVEL_11: [f32; 11] = [
 ];
 
 // Table 7.23, bap 5
-pub const MANT_LEVEL_15: [f32; 15] = [
+const MANT_LEVEL_15: [f32; 15] = [
     -14.0 / 15.0,
     -12.0 / 15.0,
     -10.0 / 15.0,
@@ -167,4 +167,35 @@ pub fn mant_level(bap: u8, code: u16) -> f32
         4 => MANT_LEVEL_11[k],
         _ => MANT_LEVEL_15[k],
     }
+}
+
+// All levels of Tables 7.19 to 7.23, for a caller that goes over them: only the table that is asked for is laid out.
+pub fn mant_level_3() -> [f32; 3]
+    ensures { λ r. ⌜ r ≡ levels 3 ⌝ }
+{
+    MANT_LEVEL_3
+}
+
+pub fn mant_level_5() -> [f32; 5]
+    ensures { λ r. ⌜ r ≡ levels 5 ⌝ }
+{
+    MANT_LEVEL_5
+}
+
+pub fn mant_level_7() -> [f32; 7]
+    ensures { λ r. ⌜ r ≡ levels 7 ⌝ }
+{
+    MANT_LEVEL_7
+}
+
+pub fn mant_level_11() -> [f32; 11]
+    ensures { λ r. ⌜ r ≡ levels 11 ⌝ }
+{
+    MANT_LEVEL_11
+}
+
+pub fn mant_level_15() -> [f32; 15]
+    ensures { λ r. ⌜ r ≡ levels 15 ⌝ }
+{
+    MANT_LEVEL_15
 }
