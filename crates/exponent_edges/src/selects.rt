@@ -1,4 +1,4 @@
-// `select_exp_strategies_per_end` and `select_refusal`.
+// `select_exp_strategies_per_end`.
 use crate::picks::top;
 use crate::print::buffer;
 use crate::print::colon;
@@ -29,8 +29,11 @@ fn row(strategies: [u8; 6]) {
     buffer(&strategies);
 }
 
-fn strategies(exps: &[u8], ends: &[u16]) {
-    let t = shaping::select_exp_strategies_per_end(exps, ends);
+// The refusal's number, then the strategies.
+fn answer(exps: &[u8], ends: &[u16]) {
+    let mut refusal = 99; // no refusal, so that a number that is not stored shows
+    let t = shaping::select_exp_strategies_per_end(exps, ends, &mut refusal);
+    number(refusal);
     row(t[0]);
     row(t[1]);
     row(t[2]);
@@ -50,8 +53,7 @@ fn select(size: usize, ends: &[u16]) {
     place(size);
     place(ends.len());
     colon();
-    number(shaping::select_refusal(&exps[0..size], ends));
-    strategies(&exps[0..size], ends);
+    answer(&exps[0..size], ends);
     line_end();
 }
 

@@ -115,7 +115,8 @@ pub extern "C" fn ac3_select_exp_strategies_per_end(
     ensures { λ r. ⌜ r ≡ selectNumber (now (exps .entry)) (now (ends .entry)) (hasLength (6 * length (now (ends .entry))) (now (strategies .entry))) ⌝ }
     ensures { λ _. ⌜ now (strategies .exit) ≡ returned (6 * length (now (ends .entry))) (selectRows (now (exps .entry)) (now (ends .entry))) (now (strategies .entry)) ⌝ }
 {
-    let number = shaping::select_refusal(exps, ends);
+    let mut number = ACCEPTED;
+    let table = shaping::select_exp_strategies_per_end(exps, ends, &mut number);
     if !six_each(strategies.len(), ends) {
         if number == OUT_OF_RANGE {
             return OUT_OF_RANGE;
@@ -126,7 +127,6 @@ pub extern "C" fn ac3_select_exp_strategies_per_end(
         slices::fill(strategies, 0);
         return number;
     }
-    let table = shaping::select_exp_strategies_per_end(exps, ends);
     return_rows(strategies, table, ends.len());
     ACCEPTED
 }

@@ -130,10 +130,12 @@ fn selected(case: Case, part: &[u8], ends: &mut [u16], exps: &[u8], left: &[u8])
     requires { ⌜ length (now ends) ≤ 16 ⌝ }
 {
     read_codes(part, ends);
-    if !same_refusal(shaping::select_refusal(exps, ends), case) {
+    let mut number = 99; // no refusal, so that a number that is not stored shows
+    let rows = shaping::select_exp_strategies_per_end(exps, ends, &mut number);
+    if !same_refusal(number, case) {
         return false;
     }
-    same_rows(shaping::select_exp_strategies_per_end(exps, ends), left)
+    same_rows(rows, left)
 }
 
 pub(crate) fn select_exp_strategies_per_end(

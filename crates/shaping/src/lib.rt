@@ -19,7 +19,6 @@ pub use groups::groups_of;
 pub use groups::ngrps_for_strategy;
 pub use pattern::coefficient_of;
 pub use select::select_exp_strategies_per_end;
-pub use select::select_refusal;
 pub use shaped::is_shaped;
 pub use spans::is_span;
 pub use spans::quantise_exponents_to_grpsize;

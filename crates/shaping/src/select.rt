@@ -27,7 +27,7 @@ fn ends_held(ends: &[u16]) -> bool
 }
 
 // The number with which `select_exp_strategies_per_end` refuses, or `ACCEPTED`.
-pub fn select_refusal(exps: &[u8], ends: &[u16]) -> u32
+fn select_refusal(exps: &[u8], ends: &[u16]) -> u32
     ensures { λ r. ⌜ r ≡ selectRefusal (now (exps .entry)) (now (ends .entry)) ⌝ }
 {
     if !((1 <= ends.len()) & ((ends.len() <= 6) & ends_held(ends))) {
@@ -64,11 +64,15 @@ fn strategy_row(exps: &[u8], ends: &[u16], channel: usize) -> [u8; 6]
     [0; 6]
 }
 
-// The strategies of six channels by six blocks; all 0 where `select_refusal` refuses.
-pub fn select_exp_strategies_per_end(exps: &[u8], ends: &[u16]) -> [[u8; 6]; 6]
+// The strategies of six channels by six blocks, all 0 where the call is refused; `refusal` gets the number, or `ACCEPTED`.
+// The two are not one struct, since the prover covers none that holds an array of arrays.
+pub fn select_exp_strategies_per_end(exps: &[u8], ends: &[u16], refusal: &mut u32) -> [[u8; 6]; 6]
     ensures { λ r. ⌜ r ≡ selected (now (exps .entry)) (now (ends .entry)) ⌝ }
+    ensures { λ _. ⌜ now (refusal .exit) ≡ selectRefusal (now (exps .entry)) (now (ends .entry)) ⌝ }
 {
-    if select_refusal(exps, ends) != bits::refusal::ACCEPTED {
+    let number = select_refusal(exps, ends);
+    *refusal = number;
+    if number != bits::refusal::ACCEPTED {
         let none = [0; 6];
         return [none, none, none, none, none, none];
     }

@@ -10,7 +10,7 @@ use Rattle.shaping.proofs.select.select_exp_strategies_per_end.Tie as t
 
 returns : tie.Need-returns
 unfolding selected
-returns c = simp (← c .before .select-refusal .ensures, ne-eqb _ _ (c .if1 .taken))
+returns c = (simp (← c .before .select-refusal .ensures, ne-eqb _ _ (c .if1 .taken)), c .before .select-refusal .ensures)
 
 strategy-row-requires : tie.Need-strategy-row-requires
 strategy-row-requires c κs = selectable _ _ (sym (c .before .select-refusal .ensures) ∙ c .if1 .left)
@@ -32,7 +32,8 @@ strategy-row-requires-6 c κs = selectable _ _ (sym (c .before .before .before .
 
 returns-2 : tie.Need-returns-2
 unfolding selected tab joined
-returns-2 c = simp (← c .before .before .before .before .before .before .before .select-refusal .ensures, eq-eqb _ _ (c .before .before .before .before .before .before .if1 .left), c .before .before .before .before .before .strategy-row .ensures, c .before .before .before .before .strategy-row2 .ensures, c .before .before .before .strategy-row3 .ensures, c .before .before .strategy-row4 .ensures, c .before .strategy-row5 .ensures, c .strategy-row6 .ensures)
+returns-2 c =
+    (simp (← c .before .before .before .before .before .before .before .select-refusal .ensures, eq-eqb _ _ (c .before .before .before .before .before .before .if1 .left), c .before .before .before .before .before .strategy-row .ensures, c .before .before .before .before .strategy-row2 .ensures, c .before .before .before .strategy-row3 .ensures, c .before .before .strategy-row4 .ensures, c .before .strategy-row5 .ensures, c .strategy-row6 .ensures), c .before .before .before .before .before .before .before .select-refusal .ensures)
 
 pub select-exp-strategies-per-end-spec : {M : Type 1} → statement M
 select-exp-strategies-per-end-spec =
