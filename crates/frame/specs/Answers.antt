@@ -75,6 +75,16 @@ readAnswer sheet bits exps bap codes =
     must (readable sheet exps bap codes) refusal.wrongLength (
     readingOf bits (readFrame sheet bits)))
 
+-- what the buffers for exponents, bap and codes take of a frame that was read
+abbrev pub expsRead : Frame → List ℕ
+expsRead frame = frame .exps
+
+abbrev pub bapRead : Frame → List ℕ
+bapRead frame = frame .bap
+
+abbrev pub codesRead : Frame → List ℕ
+codesRead frame = frame .codes
+
 -- one of the buffers of a reading: what was read, or all 0 after a fault
 unfoldable pub readInto : (Frame → List ℕ) → ℕ → Outcome Frame → List ℕ
 readInto part n (ok frame rest) = part frame

@@ -26,8 +26,20 @@ use Rattle.frame.specs.LayoutLaws.{length-row, end-inside, clean-clean, 
 use Rattle.frame.specs.Body.{setBits, setsBits, bapRow, mantissaBits, blockBits, exponentCounts, mantissaCounts}
 use Rattle.frame.specs.Legal.{partLegal, rowLegal}
 use Rattle.frame.specs.LegalLaws.{part-repeats, part-shaped, part-of-row}
-use Rattle.frame.specs.Reader.{Frame, readPart, readSets, readBlock, grown, nothing, earlier, frameOf}
+use Rattle.frame.specs.Reader.{Frame, readPart, readSets, readBlock, grown, nothing, earlier}
 use Rattle.frame.specs.Under.{KnownSet, channel-known, known-set}
+
+-- what is read of its first k blocks: exponents and codes with 0 from each end on, their allocation and their counts
+unfoldable pub frameOf : List ℕ → List ℕ → List ℕ → ℕ → Frame
+frameOf sheet exps codes k =
+    record {
+      exps = joined k (λ b. cleanRow sheet (rowOf sheet b exps));
+      bap = joined k (λ b. bapRow sheet (rowOf sheet b exps));
+      codes = joined k (λ b. cleanRow sheet (rowOf sheet b codes));
+      row = earlier sheet exps k;
+      exponentBits = exponentCounts sheet exps k;
+      mantissaBits = mantissaCounts sheet exps codes k;
+    }
 
 -- a channel's part: a new set is read back as it was written; a reuse block repeats the earlier part
 part-reads : (set : ExponentSet) (end : ℕ) (old part : List ℕ) → KnownSet set → legalEnd end ≡ true → end ≤ length part → (set ≡ Reuse → clean end old ≡ old)

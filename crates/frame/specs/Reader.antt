@@ -4,14 +4,14 @@ use Prim.Native.Nat.{ℕ, zero, suc, _-_, _*_}
 use mathlib.Core.Bool.{Bool}
 use mathlib.Core.List.{List, [], _∷_, _++_}
 use lib.ListN.{length, replicate}
-use Rattle.bits.specs.Parts.{joined, piece}
+use Rattle.bits.specs.Parts.{piece}
 use Rattle.bits.specs.Reading.{Outcome, ok, then, steps, gather}
 use Rattle.exponents.specs.Reading.{readExponents}
 use Rattle.mantissas.specs.Stream.{readStream}
 use Rattle.sheet.specs.declared.record.ExponentSet.{ExponentSet}
 use Rattle.sheet.specs.declared.record.ExponentSet.the-variants.{Reuse, New}
 use Rattle.frame.specs.Layout.{channels, endAt, setAt, rowOf, cleanRow}
-use Rattle.frame.specs.Body.{bapRow, exponentCounts, mantissaCounts}
+use Rattle.frame.specs.Body.{bapRow}
 
 -- a channel's exponents in a block: a new set is read, reuse repeats the part of the block before (`old`)
 unfoldable pub readPart : ExponentSet → ℕ → List ℕ → List Bool → Outcome (List ℕ)
@@ -58,21 +58,7 @@ nothing sheet = record { exps = []; bap = []; codes = []; row = replicate (256 *
 unfoldable pub readFrame : List ℕ → List Bool → Outcome Frame
 readFrame sheet bits = steps (readBlock sheet) 6 (nothing sheet) bits
 
--- ---- what is read of a frame that was written
-
--- the exponents that block b may repeat: those of the block before, below each end; block 0 is never reuse and has zeros there
+-- the exponents that a reuse block b repeats: those of the block before, below each end; block 0 is never reuse and has zeros there
 unfoldable pub earlier : List ℕ → List ℕ → ℕ → List ℕ
 earlier sheet exps zero = replicate (256 * channels sheet) 0
 earlier sheet exps (suc b) = cleanRow sheet (rowOf sheet b exps)
-
--- what is read of its first k blocks: exponents and codes with 0 from each end on, their allocation and their counts
-unfoldable pub frameOf : List ℕ → List ℕ → List ℕ → ℕ → Frame
-frameOf sheet exps codes k =
-    record {
-      exps = joined k (λ b. cleanRow sheet (rowOf sheet b exps));
-      bap = joined k (λ b. bapRow sheet (rowOf sheet b exps));
-      codes = joined k (λ b. cleanRow sheet (rowOf sheet b codes));
-      row = earlier sheet exps k;
-      exponentBits = exponentCounts sheet exps k;
-      mantissaBits = mantissaCounts sheet exps codes k;
-    }

@@ -14,8 +14,8 @@ use Rattle.frame.specs.Body.{setsBits, mantissaBits, blockBits, bodyBits
 use Rattle.frame.specs.BodyLaws.{total-append, total-joined}
 use Rattle.frame.specs.Legal.{LegalFrame}
 use Rattle.frame.specs.LegalLaws.{legal-row, legal-codes}
-use Rattle.frame.specs.Reader.{Frame, readBlock, readFrame, frameOf}
-use Rattle.frame.specs.ReadBackLaws.{block-reads, earlier-kept, frame-grows, frame-starts, row-at}
+use Rattle.frame.specs.Reader.{Frame, readBlock, readFrame}
+use Rattle.frame.specs.ReadBackLaws.{frameOf, block-reads, earlier-kept, frame-grows, frame-starts, row-at}
 
 -- READ BACK: the bits of a legal frame, and any others after them, read as that frame, and the others are left
 pub body-reads-back : (sheet exps codes : List ℕ) → checkOf sheet ≡ refusal.accepted → length exps ≡ 256 * channels sheet * 6 → LegalFrame sheet exps codes

@@ -11,7 +11,7 @@ use Rattle.bits.specs.Parts.{tab}
 use Rattle.bits.specs.PartsLaws.{tab-more, tab-end}
 use Rattle.exponents.specs.Groups.{groupCount}
 use Rattle.exponents.specs.GroupsLaws.{count-thirds}
-use Rattle.mantissas.specs.Count.{sum}
+use Rattle.mantissas.specs.Formula.{sum}
 use Rattle.sheet.specs.Ranges.{legalEnd}
 use Rattle.sheet.specs.declared.record.ExponentSet.{ExponentSet}
 use Rattle.sheet.specs.declared.record.ExponentSet.the-variants.{Reuse, New}

@@ -12,7 +12,8 @@ ghost use Rattle.frame.specs.Body.{countsOf, total};
 ghost use Rattle.frame.specs.Legal.{codesLegal};
 ghost use Rattle.frame.specs.Under.{Under, KnownSet};
 ghost use Rattle.frame_rows.specs.Rows.{bapsOf};
-ghost use Rattle.frame_body.specs.Counts.{setCount, setsCount};
+ghost use Rattle.frame_body.specs.Counts.{setCount};
+ghost use Rattle.frame_body.specs.Writing.{setsCount};
 
 // A channel's exponents in a block: none where the block reuses the earlier ones, else 4 bits and at most 84 groups.
 fn count_set(set: ExponentSet, end: usize) -> u32

@@ -16,7 +16,7 @@ use Rattle.frame.specs.Under.{channel-known}
 use Rattle.frame_rows.specs.LegalLaws.{legal-low}
 use Rattle.frame_rows.specs.Rows.{bapsOf}
 use Rattle.frame_rows.specs.RowsLaws.{length-baps, row-baps}
-use Rattle.frame_runs.specs.Finite.{Encodable}
+use Rattle.frame_runs.specs.Inner.{Encodable}
 use Rattle.frame_runs.specs.FiniteLaws.{finite-below}
 use Rattle.frame_runs.specs.FramedLaws.{below-row}
 use Rattle.frame_runs.specs.Runs.{belowEnd}

@@ -15,7 +15,7 @@ use Rattle.frame.specs.LayoutLaws.{length-bapPart}
 use Rattle.frame.specs.Legal.{codesLegal, LegalFrame}
 use Rattle.frame_rows.specs.Rows.{bapsOf, cleaned}
 use Rattle.frame_rows.specs.RowsLaws.{length-baps}
-use Rattle.frame_runs.specs.Finite.{Encodable}
+use Rattle.frame_runs.specs.Inner.{Encodable}
 use Rattle.frame_runs.specs.FramedLaws.{length-framed, row-framed-clean, framed-clean}
 use Rattle.frame_runs.specs.Runs.{belowEnd, expsOf}
 use Rattle.frame_runs.specs.RunsLaws.{whole-below}

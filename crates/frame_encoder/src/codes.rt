@@ -8,7 +8,7 @@ ghost use lib.ListN.{length, replicate};
 ghost use Rattle.bits.specs.Parts.{joined};
 ghost use Rattle.frame.specs.Layout.{channels};
 ghost use Rattle.frame.specs.Under.{Under};
-ghost use Rattle.frame_runs.specs.Finite.{Encodable};
+ghost use Rattle.frame_runs.specs.Inner.{Encodable};
 ghost use Rattle.quantiser.specs.Code.{codeOf};
 ghost use Rattle.frame_encoder.specs.Codes.{codesFor, codePart, codesAt};
 ghost use Rattle.frame_encoder.specs.Made.{Codable, Allocated};

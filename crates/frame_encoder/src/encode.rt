@@ -7,7 +7,7 @@ ghost use Rattle.frame.specs.Answers.{bodyLeft};
 ghost use Rattle.frame.specs.Layout.{channels as frameChannels};
 ghost use Rattle.frame.specs.Under.{Under};
 ghost use Rattle.frame_rows.specs.Rows.{bapsOf};
-ghost use Rattle.frame_runs.specs.Finite.{Encodable};
+ghost use Rattle.frame_runs.specs.Inner.{Encodable};
 ghost use Rattle.frame_runs.specs.Runs.{expsOf};
 ghost use Rattle.frame_encoder.specs.Codes.{codesOf};
 ghost use Rattle.frame_encoder.specs.Encode.{encodedBits, roomAnswer, allFit, encodeAnswer, left};

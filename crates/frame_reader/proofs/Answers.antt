@@ -9,13 +9,12 @@ use Rattle.bits.specs.Reading.{Outcome, ok, fault}
 use Rattle.bits.specs.Refusal as refusal
 use Rattle.sheet.specs.Layout.{bufferLength}
 use Rattle.sheet.specs.Sheet.{checkOf}
-use Rattle.frame.specs.Answers.{turnedBack, readingOf, readInto, readAnswer, readLeft, reached}
+use Rattle.frame.specs.Answers.{turnedBack, readingOf, readInto, readAnswer, readLeft, reached, expsRead, bapRead, codesRead}
 use Rattle.frame.specs.Layout.{channels}
 use Rattle.frame.specs.Reader.{Frame, readFrame}
 use Rattle.frame.specs.Under.{trackOf, channels-some}
 use Rattle.frame.specs.declared.track.Track.{Track}
 use Rattle.frame.specs.declared.answer.FrameAnswer.{FrameAnswer}
-use Rattle.frame_reader.specs.Reading.{expsRead, bapRead, codesRead}
 
 -- a reading with a fault: each buffer is all 0
 reading-fault : (part : Frame → List ℕ) (bits : List Bool) (n : ℕ) (o : Outcome Frame) → (readingOf bits o .refusal ≡ refusal.accepted → ⊥) → replicate n 0 ≡ readInto part n o

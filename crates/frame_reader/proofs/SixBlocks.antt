@@ -20,7 +20,7 @@ use Rattle.sheet.specs.Sheet.{checkOf}
 use Rattle.frame.specs.Reader.{Frame, grown, readBlock, nothing, readFrame}
 use Rattle.frame.specs.Under.{channel-known}
 use Rattle.frame.specs.declared.answer.FrameAnswer.{FrameAnswer}
-use Rattle.frame_rows.specs.Rows.{LowRow}
+use Rattle.frame_rows.specs.Inner.{LowRow}
 use Rattle.frame_rows.specs.RowsLaws.{zero-past}
 use Rattle.frame_reader.specs.Reading.{HeldRows, CameBlock, CameFrame, mostBlock}
 use Rattle.frame_reader.specs.declared.block.BlockEnd.{BlockEnd}

@@ -1,4 +1,4 @@
--- What the three buffers take of a frame that was read, and how the code reads it: how many bits there can be, what holds from block to
+-- How the code reads a frame: how many bits there can be, what holds from block to
 -- block, and what a block's reading and the whole reading come to.
 use Prim.Native.Nat.{ℕ, _+_, _*_, _≤_}
 use mathlib.Core.Path.{_≡_}
@@ -13,19 +13,8 @@ use Rattle.frame.specs.Body.{bapRow}
 use Rattle.frame.specs.Layout.{channels}
 use Rattle.frame.specs.Reader.{Frame, grown, readBlock}
 use Rattle.frame.specs.declared.answer.FrameAnswer.{FrameAnswer}
-use Rattle.frame_rows.specs.Rows.{LowRow}
+use Rattle.frame_rows.specs.Inner.{LowRow}
 use Rattle.frame_reader.specs.declared.block.BlockEnd.{BlockEnd}
-
--- ---- what the buffers for exponents, bap and codes take of a frame (frame/specs/Reader.antt)
-
-abbrev pub expsRead : Frame → List ℕ
-expsRead frame = frame .exps
-
-abbrev pub bapRead : Frame → List ℕ
-bapRead frame = frame .bap
-
-abbrev pub codesRead : Frame → List ℕ
-codesRead frame = frame .codes
 
 -- ---- how many bits there can be, so that positions fit
 

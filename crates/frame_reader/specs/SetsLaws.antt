@@ -23,7 +23,7 @@ use Rattle.frame.specs.Layout.{channels, endAt, setAt}
 use Rattle.frame.specs.LayoutLaws.{length-part, length-bapRow, piece-bap}
 use Rattle.frame.specs.Reader.{readPart, readSets}
 use Rattle.frame.specs.Under.{KnownSet, channel-known, known-set}
-use Rattle.frame_rows.specs.Rows.{LowRow, KeptBap}
+use Rattle.frame_rows.specs.Inner.{LowRow, KeptBap}
 use Rattle.frame_reader.specs.Reading.{HeldRows}
 
 -- ---- one channel's part

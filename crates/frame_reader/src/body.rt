@@ -9,10 +9,10 @@ ghost use mathlib.Core.Path.{_≡_};
 ghost use Prim.Native.Nat.{_*_};
 ghost use lib.ListN.{length};
 ghost use Rattle.bits.specs.Field.{bitsOf};
-ghost use Rattle.frame.specs.Answers.{readAnswer, readLeft, reached, readingOf, readInto};
+ghost use Rattle.frame.specs.Answers.{readAnswer, readLeft, reached, readingOf, readInto, expsRead, bapRead, codesRead};
 ghost use Rattle.frame.specs.Reader.{readFrame};
 ghost use Rattle.frame.specs.Under.{Under};
-ghost use Rattle.frame_reader.specs.Reading.{CameFrame, expsRead, bapRead, codesRead};
+ghost use Rattle.frame_reader.specs.Reading.{CameFrame};
 
 // The six blocks, with rows of its own for what holds from block to block.
 fn get_frame(

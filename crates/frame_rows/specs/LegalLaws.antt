@@ -19,7 +19,7 @@ use Rattle.frame.specs.Legal.{expsLegal}
 use Rattle.frame.specs.LegalLaws.{part-repeats, part-shaped, legal-part}
 use Rattle.frame.specs.LayoutLaws.{take-clean, end-inside, piece-clean, length-row, bapPart-same, piece-bap}
 use Rattle.frame.specs.Under.{channel-known, one-of-two}
-use Rattle.frame_rows.specs.Rows.{LowRow, KeptBap}
+use Rattle.frame_rows.specs.Inner.{LowRow, KeptBap}
 
 -- shaped exponents are at most 24
 low-shaped : (h end : ℕ) (part : List ℕ) → Shaped h (take end part) → (bin : ℕ) → bin < end → getD part bin 0 ≤ 24

@@ -1,6 +1,7 @@
 -- The allocation of a whole frame: document 01, "The frame body". First what a reader must believe.
 pub mod Rows
--- Then what follows from it: the laws of rows and of the loops over them.
+-- Then what follows from it: what the functions ask inside, the laws of rows and of the loops over them.
+pub mod Inner
 pub mod LegalLaws
 pub mod RowsLaws
 pub mod CleanLaws

@@ -1,6 +1,6 @@
 // Rows and buffers of six channels, all 0: local arrays that are filled from their front.
 ghost use mathlib.Core.Path.{_≡_};
-ghost use Rattle.frame_rows.specs.Rows.{noBuffer, noRow};
+ghost use Rattle.frame_rows.specs.Inner.{noBuffer, noRow};
 
 // A row of exponents or bap.
 pub fn no_row() -> [u8; 1536]

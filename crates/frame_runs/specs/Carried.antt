@@ -6,7 +6,7 @@ use lib.Ieee.{Float}
 use lib.ListN.{take}
 use Rattle.bits.specs.Parts.{joined, piece}
 use Rattle.frame.specs.Layout.{channels, setAt, bySet}
-use Rattle.frame_rows.specs.Rows.{noRow}
+use Rattle.frame_rows.specs.Inner.{noRow}
 use Rattle.frame_runs.specs.Runs.{runPart, partAt}
 
 -- a channel's part of block b, after the part `old` of the block before

@@ -11,7 +11,7 @@ use Rattle.bits.specs.PartsLaws.{joined-cong, piece-joined}
 use Rattle.bits.specs.Refusal as refusal
 use Rattle.frame.specs.Layout.{channels, setAt}
 use Rattle.frame.specs.Under.{channel-known, one-of-two, by-reuse, by-new}
-use Rattle.frame_rows.specs.Rows.{noRow}
+use Rattle.frame_rows.specs.Inner.{noRow}
 use Rattle.sheet.specs.Sheet.{checkOf}
 use Rattle.sheet.specs.declared.record.ExponentSet.the-variants.{Reuse, New}
 use Rattle.frame_runs.specs.Carried.{nextPart, nextRow, rowAt, rowBefore}

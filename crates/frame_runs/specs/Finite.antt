@@ -1,12 +1,10 @@
 -- Which coefficients a frame may have (document 01, "When a call is turned back", cause 3: "coefficient below end not finite"). Those from
 -- an end on are ignored.
-use Prim.Native.Nat.{ℕ, _*_}
+use Prim.Native.Nat.{ℕ}
 use mathlib.Core.Bool.{Bool, true, _&&_}
 use mathlib.Core.List.{List, [], _∷_}
-use mathlib.Core.Path.{_≡_}
 use lib.Ieee.{Float}
 use lib.Ieee.Scale.{finite}
-use lib.ListN.{length}
 use Rattle.frame.specs.Layout.{channels}
 use Rattle.sheet.specs.Ranges.{allBelow}
 use Rattle.frame_runs.specs.Runs.{belowEnd}
@@ -23,8 +21,3 @@ finiteRow sheet coeffs b = allBelow (channels sheet) (λ c. finitePart (belowEnd
 -- each one of the six blocks; else cause 3
 unfoldable pub allFinite : List ℕ → List Float → Bool
 allFinite sheet coeffs = allBelow 6 (finiteRow sheet coeffs)
-
--- the coefficients of a whole frame, all of them finite below the ends
-pub record Encodable (sheet : List ℕ) (coeffs : List Float) : Type 0 where
-  pub whole : length coeffs ≡ 256 * channels sheet * 6
-  pub finite : allFinite sheet coeffs ≡ true

@@ -2,6 +2,7 @@
 pub mod Runs
 pub mod Finite
 -- Then what follows from it: the exponents as the code carries them from block to block, and the laws.
+pub mod Inner
 pub mod Carried
 pub mod FiniteLaws
 pub mod RunsLaws

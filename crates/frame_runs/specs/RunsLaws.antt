@@ -11,7 +11,8 @@ use Rattle.frame.specs.Layout.{channels, endAt, setAt}
 use Rattle.frame.specs.Under.{Under, channel-known, held-channels, held-end, by-reuse, by-new}
 use Rattle.frame.specs.declared.track.Track.{Track}
 use Rattle.sheet.specs.Laws.{part-within}
-use Rattle.sheet.specs.Layout.{PartStart, partStart}
+use Rattle.sheet.specs.Layout.{partStart}
+use Rattle.sheet.specs.Inner.{PartStart}
 use Rattle.sheet.specs.Sheet.{checkOf}
 use Rattle.sheet.specs.declared.record.BlockSet.{BlockSet}
 use Rattle.sheet.specs.declared.record.ExponentSet.the-variants.{Reuse, New}

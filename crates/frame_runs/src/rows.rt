@@ -4,7 +4,7 @@ ghost use Prim.Native.Nat.{_*_, _<_};
 ghost use lib.ListN.{length};
 ghost use Rattle.frame.specs.Layout.{channels};
 ghost use Rattle.frame.specs.Under.{Under};
-ghost use Rattle.frame_runs.specs.Finite.{Encodable};
+ghost use Rattle.frame_runs.specs.Inner.{Encodable};
 ghost use Rattle.frame_runs.specs.Runs.{expsOf};
 ghost use Rattle.frame_runs.specs.Carried.{nextRow};
 use crate::part::next_part;

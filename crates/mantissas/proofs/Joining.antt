@@ -17,7 +17,8 @@ use Rattle.mantissas.specs.Inner.{Ends, Below, nil, cons}
 use Rattle.mantissas.specs.Stream.{bapsFit, bitCount}
 use Rattle.mantissas.specs.Tally.{tallyOf, tallyBits}
 use Rattle.mantissas.specs.TallyLaws.{tally-append, tally-bits}
-use Rattle.sheet.specs.Layout.{bufferLength, PartStart}
+use Rattle.sheet.specs.Layout.{bufferLength}
+use Rattle.sheet.specs.Inner.{PartStart}
 
 -- ---- the baps of a part are among those of the whole
 

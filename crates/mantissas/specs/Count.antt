@@ -18,8 +18,7 @@ use Rattle.mantissas.specs.Ranges.{size, width, groupSizes}
 use Rattle.mantissas.specs.RangesLaws.{row}
 use Rattle.tables.specs.Entry.{entry}
 use Rattle.tables.specs.Quantizer.{quantizationBits}
--- passed on, for those who cite the laws
-unfoldable pub use Rattle.mantissas.specs.Formula.{count, alone, sum}
+use Rattle.mantissas.specs.Formula.{count, alone, sum}
 
 -- the whole formula: ⌈n/3⌉ is (n + 2) / 3, and ⌈n/2⌉ is (n + 1) / 2
 abbrev pub formula : List ℕ → ℕ

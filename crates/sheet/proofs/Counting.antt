@@ -9,7 +9,8 @@ use lib.Seq.{drop-drop, take-all, drop-length}
 use lib.Dec.{eqb}
 use borrow.Author.Tests.{eq-eqb, ne-eqb}
 use Rattle.bits.specs.Tests.{both}
-use Rattle.sheet.specs.Grammar.{recordSize, countOff, recordsFrom, every, EndsAt}
+use Rattle.sheet.specs.Grammar.{recordSize, countOff, recordsFrom, every}
+use Rattle.sheet.specs.Inner.{EndsAt}
 use Rattle.sheet.specs.Record.{channelOf, ofChannel}
 
 -- the bytes of the record before are passed over

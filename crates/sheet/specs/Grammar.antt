@@ -1,7 +1,6 @@
 -- The structure of a track sheet, document 01, "The track sheet": the bytes before the records, the length, the version,
 -- and the records. A sheet is a list of bytes; what is read past the end of a list is 0.
-use Prim.Native.Nat.{ℕ, zero, suc, _+_, _-_, _*_, _≤_, _<_}
-use mathlib.Core.Path.{_≡_}
+use Prim.Native.Nat.{ℕ, zero, suc, _+_, _-_, _*_}
 use mathlib.Core.List.{List, [], _∷_}
 use mathlib.Core.Bool.{Bool, true, _&&_}
 use lib.ListN.{length, getD, take, drop}
@@ -58,11 +57,3 @@ lengthMatches s = leb headSize (length s) && eqb (length s) (2 + lengthOf s)
 -- nor another version than 1, nor "a record cut short": the structure is right
 abbrev pub structured : List ℕ → Bool
 structured s = lengthMatches s && eqb (versionOf s) 1 && every isWhole (recordsOf s)
-
--- ---- for the code that goes from record to record
-
--- r is where the record that starts at `at` ends
-pub record EndsAt (s : List ℕ) (at r : ℕ) : Type 0 where
-  pub more : at < r
-  pub within : r ≤ length s
-  pub split : recordsFrom s at ≡ take (r - at) (drop at s) ∷ recordsFrom s r

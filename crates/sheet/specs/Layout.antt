@@ -1,6 +1,5 @@
 -- Where each channel's part of the buffers stands, document 01, "The track sheet".
-use Prim.Native.Nat.{ℕ, _+_, _*_, _≤_}
-use mathlib.Core.Path.{_≡_}
+use Prim.Native.Nat.{ℕ, _+_, _*_}
 
 -- "Coefficients, exponents, bap and codes are buffers of 6 × C × 256 entries."
 abbrev pub bufferLength : ℕ → ℕ
@@ -9,8 +8,3 @@ bufferLength channels = 6 * channels * 256
 -- "A channel's part starts at 256 × (C × block + channel)."
 abbrev pub partStart : ℕ → ℕ → ℕ → ℕ
 partStart channels block channel = 256 * (channels * block + channel)
-
--- for the code: r is where the part of a channel starts, and the part lies within the buffer
-pub record PartStart (channels block channel r : ℕ) : Type 0 where
-  pub is : r ≡ partStart channels block channel
-  pub within : r + 256 ≤ bufferLength channels

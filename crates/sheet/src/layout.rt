@@ -1,7 +1,8 @@
 // Where each channel's part of a buffer stands.
 ghost use mathlib.Core.Path.{_≡_};
 ghost use Prim.Native.Nat.{_<_, _≤_};
-ghost use Rattle.sheet.specs.Layout.{bufferLength, PartStart};
+ghost use Rattle.sheet.specs.Layout.{bufferLength};
+ghost use Rattle.sheet.specs.Inner.{PartStart};
 
 pub fn buffer_length(channels: usize) -> usize
     requires { ⌜ channels ≤ 6 ⌝ }

@@ -2,7 +2,8 @@
 ghost use mathlib.Core.Path.{_≡_};
 ghost use Prim.Native.Nat.{_<_};
 ghost use lib.ListN.{length, getD};
-ghost use Rattle.sheet.specs.Grammar.{recordSize, isWhole, EndsAt};
+ghost use Rattle.sheet.specs.Grammar.{recordSize, isWhole};
+ghost use Rattle.sheet.specs.Inner.{EndsAt};
 
 // The records start after the twelve bytes of the head.
 pub const HEAD_SIZE: usize = 12;

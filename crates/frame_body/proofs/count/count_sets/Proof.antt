@@ -1,11 +1,12 @@
 -- After c channels their sets are counted.
 use mathlib.Core.Path.{_≡_, refl, ap₂, _∙_}
 use Prim.Native.Nat.{_-_, _*_, _≤_}
-use Rattle.mantissas.specs.Count.{sum}
+use Rattle.mantissas.specs.Formula.{sum}
 use Rattle.frame.specs.Layout.{channels, endAt, setAt}
 use Rattle.frame.specs.Under.{held-channels, held-end, held-set, held-legal, held-known}
 use Rattle.frame_rows.specs.RowsLaws.{held-most}
-use Rattle.frame_body.specs.Counts.{setCount, setsCount}
+use Rattle.frame_body.specs.Counts.{setCount}
+use Rattle.frame_body.specs.Writing.{setsCount}
 use Rattle.frame_body.proofs.Counting.{sum-turn}
 use native.Mathlib.Omega.{arith}
 use borrow.Author.Needs.{needs}

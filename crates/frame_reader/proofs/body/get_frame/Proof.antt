@@ -6,7 +6,7 @@ use native.Mathlib.Nat.{not-suc-le-zero, le-of-suc-le-suc}
 use native.Mathlib.Omega.{arith}
 use borrow.Author.Needs.{needs}
 use lib.ListN.{length, take, replicate, length-replicate}
-use Rattle.frame_rows.specs.Rows.{noRow}
+use Rattle.frame_rows.specs.Inner.{noRow}
 use Rattle.frame_rows.specs.RowsLaws.{length-noRow, held-most}
 use Rattle.frame_reader.proofs.body.get_frame.Statement.{statement}
 use Rattle.frame_reader.proofs.body.get_frame.Tie as tie

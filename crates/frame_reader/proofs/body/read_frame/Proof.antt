@@ -5,7 +5,7 @@ use borrow.Author.Needs.{needs}
 use lib.ListN.{length, replicate}
 use Rattle.bits.specs.Field.{bitsOf}
 use Rattle.frame.specs.Reader.{readFrame}
-use Rattle.frame_reader.specs.Reading.{expsRead, bapRead, codesRead}
+use Rattle.frame.specs.Answers.{expsRead, bapRead, codesRead}
 use Rattle.frame_reader.proofs.Answers.{faulty-zero}
 use Rattle.frame_reader.proofs.body.read_frame.Statement.{statement}
 use Rattle.frame_reader.proofs.body.read_frame.Tie as tie

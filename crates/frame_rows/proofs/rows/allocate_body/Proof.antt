@@ -13,7 +13,8 @@ use Rattle.frame.specs.Body.{bapRow}
 use Rattle.frame.specs.Layout.{rowOf}
 use Rattle.frame.specs.Under.{held-channels}
 use Rattle.frame_rows.specs.LegalLaws.{legal-low, kept-first, kept-next}
-use Rattle.frame_rows.specs.Rows.{bapsOf, KeptBap}
+use Rattle.frame_rows.specs.Rows.{bapsOf}
+use Rattle.frame_rows.specs.Inner.{KeptBap}
 use Rattle.frame_rows.specs.RowsLaws.{length-noRow, back-length, back-whole, back-taken, row-lent, row-inside, held-most}
 use Rattle.frame_rows.specs.Walks.{lent-long, turn-length, turn-more}
 use Rattle.frame_rows.proofs.rows.allocate_body.Statement.{statement}

@@ -1,6 +1,6 @@
 -- All entries are 0.
 use mathlib.Core.Path.{refl}
-use Rattle.frame_rows.specs.Rows.{noRow}
+use Rattle.frame_rows.specs.Inner.{noRow}
 use Rattle.frame_rows.proofs.zeros.no_row.Statement.{statement}
 use Rattle.frame_rows.proofs.zeros.no_row.Tie as tie
 
