@@ -6,6 +6,7 @@ use crate::tally::Tally;
 use rust_reference::gen::{self, Wish};
 use rust_reference::model::{self as m, Sheet};
 use rust_reference::rng::Rng;
+use std::hint::black_box;
 
 pub fn run(tally: &mut Tally) {
     let mut g = Rng::new(0x4e61);
@@ -24,14 +25,19 @@ fn parts(s: &Sheet) -> Vec<(usize, usize)> {
     (0..m::BLOCKS).flat_map(|block| (0..s.c()).map(move |channel| (block, channel))).collect()
 }
 
+/// Puts these bits into a coefficient, and sees that they stand there in memory: a copy might make a signalling NaN quiet.
+fn put_bits(coeff: &mut f32, bits: u32) {
+    *coeff = f32::from_bits(bits);
+    assert_eq!(black_box(coeff).to_bits(), bits, "the bits have changed");
+}
+
 /// One coefficient of these bits.
 fn single(tally: &mut Tally, s: &Sheet, plain: &[f32], bits: u32) {
     for (block, channel) in parts(s) {
         let end = s.end(channel);
         for (bin, name) in [(0, "below end"), (end - 1, "below end"), (end, "from end on"), (m::NC - 1, "from end on")] {
             let mut x = plain.to_vec();
-            x[s.at(block, channel) + bin] = f32::from_bits(bits);
-            assert_eq!(x[s.at(block, channel) + bin].to_bits(), bits, "the bits have changed");
+            put_bits(&mut x[s.at(block, channel) + bin], bits);
             let label = format!("{bits:08x} in block {block}, channel {channel}, bin {bin} of {end}");
             compare(tally, &format!("short: encode_body, not finite {name}"), &label, s, &x, plain);
         }
@@ -44,8 +50,7 @@ fn everywhere(tally: &mut Tally, s: &Sheet, plain: &[f32]) {
     for (block, channel) in parts(s) {
         let at = s.at(block, channel);
         for i in at + s.end(channel)..at + m::NC {
-            x[i] = f32::from_bits(NOT_FINITE[i % NOT_FINITE.len()]);
-            assert_eq!(x[i].to_bits(), NOT_FINITE[i % NOT_FINITE.len()], "the bits have changed");
+            put_bits(&mut x[i], NOT_FINITE[i % NOT_FINITE.len()]);
         }
     }
     compare(tally, "short: encode_body, not finite from end on", "all from each end on", s, &x, plain);

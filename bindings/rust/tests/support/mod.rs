@@ -24,10 +24,10 @@ pub const NOT_FINITE: [u32; 10] = [
     0xffbf_ffff,
 ];
 
-/// Puts these bits into a coefficient, and sees that they stand there: a copy might make a signalling NaN quiet.
+/// Puts these bits into a coefficient, and sees that they stand there in memory: a copy might make a signalling NaN quiet.
 pub fn put_bits(coeff: &mut f32, bits: u32) {
     *coeff = f32::from_bits(bits);
-    assert_eq!(coeff.to_bits(), bits);
+    assert_eq!(std::hint::black_box(coeff).to_bits(), bits);
 }
 
 /// Numbers by splitmix64.
