@@ -1,5 +1,5 @@
 //! The oracle's cases, chosen and random: each entry is called on a case's inputs, and answer, counts and every buffer are compared whole.
-use crate::entries::{self, plain};
+use crate::entries;
 use crate::tally::Tally;
 use rust_reference::cases::{Case, F};
 use rust_reference::gen;
@@ -46,7 +46,7 @@ impl Inputs<'_> {
     }
     fn floats(&self, name: &str) -> Vec<f32> {
         match self.field(name) {
-            F::F32(v) => v.iter().map(|&b| plain(f32::from_bits(b))).collect(),
+            F::F32(v) => v.iter().map(|&b| f32::from_bits(b)).collect(),
             _ => panic!("{name} is no floats"),
         }
     }

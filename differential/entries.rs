@@ -1,5 +1,5 @@
 //! The entries of the archive (crate `host`), each behind a safe function over slices, parameters in the archive's order.
-//! An answer is 0 or the refusal's number. No entry takes a NaN's pattern: an infinity stands for it (`plain`).
+//! An answer is 0 or the refusal's number.
 #![allow(clippy::too_many_arguments)]
 
 #[rustfmt::skip] // a line or two for each entry
@@ -45,15 +45,6 @@ extern "C" {
         d: usize, counts: *mut u32, twelve: usize, bits: *mut u32, one: usize,
     ) -> u32;
     fn ac3_write_u32(out: *mut u8, size: usize, v: u32, n: u32, bits: *mut u32, one: usize) -> u32;
-}
-
-/// What is handed on for a coefficient: an infinity for a NaN, since neither is finite.
-pub fn plain(x: f32) -> f32 {
-    if x.is_nan() {
-        f32::INFINITY
-    } else {
-        x
-    }
 }
 
 pub fn check_sheet(sheet: &[u8]) -> u32 {

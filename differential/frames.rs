@@ -1,7 +1,7 @@
 //! Whole frames: from coefficients, from exponents and codes, read back, and damaged copies of the body read; and the long run over random ones.
 use crate::cases::{FILL, FILL_CODE};
-use crate::entries::{self, plain};
-use crate::spectra;
+use crate::entries;
+use crate::spectra::{self, NOT_FINITE};
 use crate::tally::Tally;
 use rust_reference::gen::{self, Wish};
 use rust_reference::model as m;
@@ -45,8 +45,7 @@ fn twelve(a: &m::Answer) -> Vec<u32> {
 /// From coefficients, through the archive.
 pub fn encoded_here(sheet: &[u8], coeffs: &[f32], entries: usize, room: usize) -> Left {
     let mut l = Left::before(entries, room);
-    let handed: Vec<f32> = coeffs.iter().map(|&x| plain(x)).collect();
-    l.answer = entries::encode_body(sheet, &handed, &mut l.exps, &mut l.bap, &mut l.codes, &mut l.body, &mut l.counts);
+    l.answer = entries::encode_body(sheet, coeffs, &mut l.exps, &mut l.bap, &mut l.codes, &mut l.body, &mut l.counts);
     l
 }
 
@@ -91,7 +90,7 @@ fn read_there(sheet: &[u8], input: &[u8], entries: usize) -> Left {
     Left { answer: a.number as u32, counts: twelve(&a), codes: low_halves(&codes), bits, ..l }
 }
 
-fn note(tally: &mut Tally, step: &str, label: &str, sheet: &[u8], here: &Left, there: &Left) {
+pub fn note(tally: &mut Tally, step: &str, label: &str, sheet: &[u8], here: &Left, there: &Left) {
     tally.step(step).case(there.answer, here == there, || {
         let part = if here.answer != there.answer {
             format!("answers {}, the oracle {}", here.answer, there.answer)
@@ -218,7 +217,7 @@ pub fn random_frame(tally: &mut Tally, seed: u64, i: u64) {
     let (name, mut x) = spectra::any(&mut g, &ordered);
     if g.chance(16) {
         let at = g.below(x.len() as u64) as usize;
-        x[at] = g.pick(&[f32::NAN, f32::INFINITY, f32::NEG_INFINITY]);
+        x[at] = f32::from_bits(g.pick(&NOT_FINITE));
     }
     let label = format!("frame {i} of seed {seed}, {name}");
     compare(tally, &mut g, &label, &s.to_bytes(), &x, 1);

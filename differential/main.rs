@@ -15,7 +15,7 @@ use tally::Tally;
 const HELP: &str =
     "differential [COUNT [SEED [PART ..]]]   COUNT random cases a step (1000), seed SEED (1); PART: a step, short, spectra, thresholds
 differential --frames N [--seed S] [--first I]   N random frames, from number I (0) on
-differential --scan   extraction over every magnitude of an f32";
+differential --scan   extraction over every magnitude of an f32, and all bits of what is not finite";
 
 /// The names that `pick_strategy_for_block` of the Rust looks up; document 01 has them unset.
 const SWITCHES: [&str; 4] = ["AC3_EXPSTR_D45_THR", "AC3_EXPSTR_D25_THR", "AC3_DISABLE_D45", "AC3_FORCE_EXPSTR"];

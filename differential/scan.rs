@@ -1,4 +1,5 @@
-//! Extraction over every magnitude of a finite f32: where it differs from the Rust's rounded logarithm, by kind, with the least magnitude.
+//! Extraction over every magnitude of a finite f32: where it differs from the Rust's rounded logarithm, by kind, with the least magnitude;
+//! and over all bits of an infinity or a NaN.
 use crate::entries;
 use crate::frames::COMPARED_FRACTION;
 use crate::tally::Tally;
@@ -16,6 +17,21 @@ struct Kind {
 const FIRST_NOT_FINITE: u32 = 0x7f80_0000;
 
 pub fn run(tally: &mut Tally) {
+    finite(tally);
+    not_finite(tally);
+}
+
+/// All bits of an infinity or a NaN, of both signs: 3 at each.
+fn not_finite(tally: &mut Tally) {
+    let line = tally.step("scan: extract_exponent, not finite");
+    for bits in (FIRST_NOT_FINITE..=0x7fff_ffff).chain(FIRST_NOT_FINITE | 1 << 31..=0xffff_ffff) {
+        let mut slot = [7u8];
+        let answer = entries::extract_exponent(f32::from_bits(bits), &mut slot);
+        line.case(3, (answer, slot[0]) == (3, 0), || format!("{bits:08x}: {answer} {}", slot[0]));
+    }
+}
+
+fn finite(tally: &mut Tally) {
     let mut kinds: BTreeMap<(u8, u8), Kind> = BTreeMap::new();
     let line = tally.step("scan: extract_exponent, fractions compared");
     for bits in 0..FIRST_NOT_FINITE {

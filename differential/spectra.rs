@@ -5,6 +5,12 @@ use rust_reference::rng::Rng;
 
 pub const NAMES: [&str; 5] = ["music", "silence", "clicks", "full scale", "denormals"];
 
+/// Bits of what is not finite, of both signs: the infinities, quiet NaNs, signalling NaNs. They are handed over as they are.
+#[rustfmt::skip]
+pub const NOT_FINITE: [u32; 10] = [
+    0x7f80_0000, 0xff80_0000, 0x7fc0_0000, 0xffc0_0000, 0x7fff_ffff, 0xffff_ffff, 0x7f80_0001, 0xff80_0001, 0x7fbf_ffff, 0xffbf_ffff,
+];
+
 fn signed(g: &mut Rng, x: f32) -> f32 {
     if g.chance(2) {
         -x
@@ -57,12 +63,12 @@ fn single(g: &mut Rng, name: &str) -> f32 {
     signed(g, x)
 }
 
-/// The coefficients of a frame with a spectrum of this name; from each end on something that is not looked at.
+/// The coefficients of a frame with a spectrum of this name; from each end on what is not finite and not looked at.
 pub fn coefficients(g: &mut Rng, s: &Sheet, name: &str) -> Vec<f32> {
     if !NAMES.contains(&name) {
         return gen::coeffs(g, s, name, true);
     }
-    let mut v = vec![f32::INFINITY; s.buffer_len()];
+    let mut v: Vec<f32> = (0..s.buffer_len()).map(|i| f32::from_bits(NOT_FINITE[i % NOT_FINITE.len()])).collect();
     for channel in 0..s.c() {
         let mut rows = vec![vec![0f32; s.end(channel)]; m::BLOCKS];
         match name {

@@ -14,7 +14,8 @@
  * AC3_ENTRIES(C) entries; the 256 of a channel in a block start at AC3_PART(C, block, channel). Entries from the
  * channel's end on are ignored when read and written as 0.
  *
- * NAN. A NaN is to be handed over as an infinity, which is refused (or, from end on, ignored) as it would be.
+ * FLOATS. A coefficient may be any float: an infinity and a NaN, whatever its bits, are refused with 3; from a channel's end
+ * on they are ignored.
  *
  * THREADS. Nothing is kept between calls. */
 #ifndef AC3CORE_H

@@ -2,7 +2,7 @@
 //! with every first value and every group.
 use super::sequences;
 use crate::cases::FILL;
-use crate::entries::{self, plain};
+use crate::entries;
 use crate::frames::COMPARED_FRACTION;
 use crate::tally::Tally;
 use rust_reference::gen;
@@ -40,7 +40,7 @@ fn extraction(tally: &mut Tally) {
             for sign in [0, 1 << 31] {
                 let x = f32::from_bits(sign | field << 23 | fraction);
                 let mut slot = [7u8];
-                let here = (entries::extract_exponent(plain(x), &mut slot), slot[0]);
+                let here = (entries::extract_exponent(x, &mut slot), slot[0]);
                 let there = m::step_extract(x).map_or_else(|k| (k as u32, 0), |e| (0, e));
                 tally
                     .step("short: extract_exponent, document 01's rule")

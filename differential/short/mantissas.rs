@@ -2,7 +2,8 @@
 //! with every value of a field; the count with every number of grouped members.
 use super::sequences;
 use crate::cases::{FILL, FILL_CODE};
-use crate::entries::{self, plain};
+use crate::entries;
+use crate::spectra::NOT_FINITE;
 use crate::tally::Tally;
 use rust_reference::gen;
 use rust_reference::model as m;
@@ -18,19 +19,20 @@ pub fn run(tally: &mut Tally) {
     counts(tally);
 }
 
-/// Values that every bap is asked at every exponent: zeros, denormals, powers of two and their neighbours, full scale and beyond.
+/// Values that every bap is asked at every exponent: zeros, denormals, powers of two and their neighbours, full scale and beyond, and what
+/// is not finite.
 fn edge_coefficients() -> Vec<f32> {
-    let mut bits = vec![0u32, 1, 0x007f_ffff, 0x0080_0000, 0x7f7f_ffff, 0x7f80_0000, 0x7f80_0001, 0x7fc0_0000];
+    let mut bits = vec![0u32, 1, 0x007f_ffff, 0x0080_0000, 0x7f7f_ffff];
     for k in -30..=3 {
         let power = 2f32.powi(k).to_bits();
         bits.extend([power - 2, power - 1, power, power + 1, power + 0x40_0000]);
     }
-    bits.iter().flat_map(|&b| [f32::from_bits(b), f32::from_bits(b | 1 << 31)]).collect()
+    bits.iter().flat_map(|&b| [b, b | 1 << 31]).chain(NOT_FINITE).map(f32::from_bits).collect()
 }
 
 fn quantise_one(tally: &mut Tally, x: f32, exponent: u32, bap: u32) {
     let mut slot = [7u16];
-    let here = (entries::quantise_mantissa(plain(x), exponent, bap, &mut slot), slot[0] as u32);
+    let here = (entries::quantise_mantissa(x, exponent, bap, &mut slot), slot[0] as u32);
     let there = m::step_quantise_mantissa(x, exponent, bap).map_or_else(|k| (k as u32, 0), |c| (0, c));
     tally
         .step("short: quantise_mantissa")

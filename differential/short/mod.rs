@@ -2,6 +2,7 @@
 mod exponents;
 mod fields;
 mod mantissas;
+mod not_finite;
 mod sheets;
 mod slots;
 
@@ -11,6 +12,7 @@ pub fn run(tally: &mut Tally) {
     exponents::run(tally);
     fields::run(tally);
     mantissas::run(tally);
+    not_finite::run(tally);
     sheets::run(tally);
     slots::run(tally);
     println!("short inputs: done");

@@ -1,5 +1,5 @@
-//! The small result slices of the entries: one of another length than the one named is 10, after 1 and 2; nothing is called then, so every
-//! buffer stays. The Rust has no such slices: what is expected is written here, from the list of entries in bindings/c/ac3core.h.
+//! The small result slices of the entries: one of another length than the one named is 10, after 1 and 2, and every buffer stays. The Rust
+//! has no such slices: what is expected is written here, from the list of entries in bindings/c/ac3core.h.
 use crate::cases::FILL;
 use crate::entries;
 use crate::tally::Tally;
@@ -25,7 +25,7 @@ fn expect(tally: &mut Tally, entry: &str, want: u32, answer: u32, left: bool) {
 /// Extraction, groups, choice of a strategy, selection, quantiser.
 fn single_results(tally: &mut Tally, n: usize) {
     let (mut bytes, mut counts, mut codes) = (vec![FILL; n], vec![7u32; n], vec![7u16; n]);
-    for x in [0.5, f32::INFINITY] {
+    for x in [0.5, f32::INFINITY, f32::from_bits(0x7f80_0001)] {
         let k = entries::extract_exponent(x, &mut bytes);
         expect(tally, "extract_exponent", 10, k, bytes == vec![FILL; n]);
         let k = entries::quantise_mantissa(x, 25, 16, &mut codes);

@@ -53,19 +53,14 @@ mod entries {
     }
 }
 
-/// The core takes no NaN's pattern. An infinity is refused as a NaN is, and ignored where a NaN is.
-fn no_nan(x: f32) -> f32 {
-    if x.is_nan() { f32::INFINITY } else { x }
-}
-
 pub fn check_sheet(sheet: &[u8]) -> u32 {
     // SAFETY: the sheet is a live slice with its own length, and only read.
     unsafe { entries::ac3_check_sheet(sheet.as_ptr(), sheet.len()) }
 }
 
 pub fn extract_exponent(x: f32, exponent: &mut [u8; 1]) -> u32 {
-    // SAFETY: the result is a live array of one entry, lent for writing.
-    unsafe { entries::ac3_extract_exponent(no_nan(x), exponent.as_mut_ptr(), 1) }
+    // SAFETY: the result is a live array of one entry, lent for writing; every coefficient may be asked for.
+    unsafe { entries::ac3_extract_exponent(x, exponent.as_mut_ptr(), 1) }
 }
 
 pub fn preprocess_d15(exp: &mut [u8]) -> u32 {
@@ -129,8 +124,9 @@ pub fn compute_bap(sheet: &[u8], channel: u32, exp: &[u8], bap: &mut [u8]) -> u3
 }
 
 pub fn quantise_mantissa(coeff: f32, exp: u32, bap: u32, code: &mut [u16; 1]) -> u32 {
-    // SAFETY: the result is a live array of one entry, lent for writing; every exponent and bap may be asked for.
-    unsafe { entries::ac3_quantise_mantissa(no_nan(coeff), exp, bap, code.as_mut_ptr(), 1) }
+    // SAFETY: the result is a live array of one entry, lent for writing; every coefficient, exponent and bap may be
+    // asked for.
+    unsafe { entries::ac3_quantise_mantissa(coeff, exp, bap, code.as_mut_ptr(), 1) }
 }
 
 pub fn write_mantissa_stream(out: &mut [u8], bap: &[u8], codes: &[u16], bits: &mut [u32; 1]) -> u32 {
@@ -164,13 +160,6 @@ pub fn encode_body(
     sheet: &[u8], coeffs: &[f32], exps: &mut [u8], bap: &mut [u8], codes: &mut [u16], body: &mut [u8],
     counts: &mut [u32; 12],
 ) -> u32 {
-    let plain: Vec<f32>;
-    let coeffs = if coeffs.iter().any(|x| x.is_nan()) {
-        plain = coeffs.iter().copied().map(no_nan).collect();
-        &plain
-    } else {
-        coeffs
-    };
     // SAFETY: sheet and coefficients only read, the others lent for writing, all live and with their own lengths.
     unsafe {
         entries::ac3_encode_body(

@@ -3,7 +3,7 @@
 mod support;
 
 use ac3core::{steps::*, Frame, Refusal, Sheet};
-use support::{example, loud_example, EXAMPLE};
+use support::{example, loud_example, put_bits, Random, EXAMPLE, NOT_FINITE};
 use Refusal::*;
 
 /// The table of document 01: number, name, cause in words.
@@ -122,16 +122,40 @@ fn out_of_range() {
 
 #[test]
 fn not_finite() {
-    for x in [f32::NAN, -f32::NAN, f32::INFINITY, f32::NEG_INFINITY] {
-        assert_eq!(extract_exponent(x), Err(NotFinite));
-        assert_eq!(quantise_mantissa(x, 25, 16), Err(NotFinite));
+    for bits in NOT_FINITE {
+        assert_eq!(extract_exponent(f32::from_bits(bits)), Err(NotFinite), "{bits:08x}");
+        assert_eq!(quantise_mantissa(f32::from_bits(bits), 0, 15), Err(NotFinite), "{bits:08x}");
+        assert_eq!(quantise_mantissa(f32::from_bits(bits), 25, 16), Err(NotFinite), "{bits:08x}");
         let sheet = example();
         let mut coeffs = vec![0.0; sheet.entries()];
-        coeffs[37] = x; // from end on it is ignored
+        put_bits(&mut coeffs[37], bits); // from end on it is ignored
         assert_eq!(sheet.encode(&coeffs).map(|encoded| encoded.counts.total()), Ok(88));
-        coeffs[sheet.part(5, 0)][36] = x;
+        put_bits(&mut coeffs[sheet.part(5, 0)][36], bits);
         assert_eq!(sheet.encode(&coeffs), Err(NotFinite));
         encode_refused(&sheet, &coeffs, 0, NotFinite);
+    }
+}
+
+/// One coefficient that is not finite, in every block and channel of frames at random.
+#[test]
+fn not_finite_in_a_frame() {
+    let mut random = Random(4);
+    for bits in NOT_FINITE {
+        let sheet = random.sheet();
+        let coeffs = random.coeffs(&sheet);
+        let encoded = sheet.encode(&coeffs).unwrap();
+        for (block, channel) in (0..6).flat_map(|block| (0..sheet.channels()).map(move |channel| (block, channel))) {
+            let (part, bins) = (sheet.part(block, channel), sheet.bins(block, channel));
+            for i in [bins.start, bins.end - 1, bins.end, part.end - 1] {
+                let mut coeffs = coeffs.clone();
+                put_bits(&mut coeffs[i], bits);
+                if i < bins.end {
+                    encode_refused(&sheet, &coeffs, sheet.longest_body(), NotFinite);
+                } else {
+                    assert_eq!(sheet.encode(&coeffs).as_ref(), Ok(&encoded));
+                }
+            }
+        }
     }
 }
 

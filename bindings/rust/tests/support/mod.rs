@@ -17,6 +17,19 @@ pub fn loud_example() -> Sheet {
     Sheet::check(&bytes).unwrap()
 }
 
+/// Bits of what is not finite, of both signs: the infinities, quiet NaNs, signalling NaNs.
+#[rustfmt::skip]
+pub const NOT_FINITE: [u32; 10] = [
+    0x7f80_0000, 0xff80_0000, 0x7fc0_0000, 0xffc0_0000, 0x7fff_ffff, 0xffff_ffff, 0x7f80_0001, 0xff80_0001, 0x7fbf_ffff,
+    0xffbf_ffff,
+];
+
+/// Puts these bits into a coefficient, and sees that they stand there in memory: a copy might make a signalling NaN quiet.
+pub fn put_bits(coeff: &mut f32, bits: u32) {
+    *coeff = f32::from_bits(bits);
+    assert_eq!(std::hint::black_box(coeff).to_bits(), bits);
+}
+
 /// Numbers by splitmix64.
 pub struct Random(pub u64);
 
