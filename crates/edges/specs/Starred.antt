@@ -42,6 +42,9 @@ preprocess exp = leaves (preprocessRefusal exp) (preprocessed exp)
 abbrev pub quantise : ℕ → List ℕ → Case
 quantise span exp = leaves (quantiseRefusal span exp) (quantised span exp)
 
+abbrev pub groups : ℕ → ℕ → Case
+groups end span = answers (groupsAnswer end span)
+
 abbrev pub write : List ℕ → List ℕ → List ℕ → Case
 write out bap codes =
     let r = writeAnswer (length out) bap codes in
@@ -59,8 +62,7 @@ computed =
     -- span 2: whole spans, and a short last span
     ∷ map (quantise 2) ((6 ∷ 6 ∷ 6 ∷ 4 ∷ 2 ∷ []) ∷ (6 ∷ 6 ∷ 6 ∷ 4 ∷ 2 ∷ 2 ∷ []) ∷ [])
     -- groups for D15, D25, D45 at the ends 253 and 40
-    ∷ map (λ span. answers (groupsAnswer 253 span)) (1 ∷ 2 ∷ 4 ∷ [])
-    ∷ map (λ span. answers (groupsAnswer 40 span)) (1 ∷ 2 ∷ 4 ∷ [])
+    ∷ (groups 253 1 ∷ groups 253 2 ∷ groups 253 4 ∷ groups 40 1 ∷ groups 40 2 ∷ groups 40 4 ∷ [])
     -- logadd (0, 0), (0, 2), (3072, 0)
     ∷ map (λ n. number (pos n)) (logadd 0 0 ∷ logadd 0 2 ∷ logadd 3072 0 ∷ [])
     -- ba 0, 3, 4, 7
@@ -68,7 +70,8 @@ computed =
     -- bap 6, exponent 0: -1, 31/32, -1/32
     ∷ map (λ x. answers (mantissaAnswer x 0 6)) (fin true 1 (pos 0) ∷ fin false 31 (negsuc 4) ∷ fin true 1 (negsuc 4) ∷ [])
     -- (1,2), (6,3), (1,0), (1,1), and (4,10) alone, each into an output of ones with a byte to spare
-    ∷ (write (255 ∷ 255 ∷ 255 ∷ []) (1 ∷ 6 ∷ 1 ∷ 1 ∷ []) (2 ∷ 3 ∷ 0 ∷ 1 ∷ []) ∷ write (255 ∷ 255 ∷ []) (4 ∷ []) (10 ∷ []) ∷ [])
+    ∷ (write (255 ∷ 255 ∷ 255 ∷ []) (1 ∷ 6 ∷ 1 ∷ 1 ∷ []) (2 ∷ 3 ∷ 0 ∷ 1 ∷ [])
+    ∷ write (255 ∷ 255 ∷ []) (4 ∷ []) (10 ∷ []) ∷ [])
     -- 2^-10 - 2^-34; 2^-25; 1
     ∷ map (λ x. answers (extracted x)) (fin false 16777215 (negsuc 33) ∷ fin false 1 (negsuc 24) ∷ fin false 1 (pos 0) ∷ [])
     ∷ []
@@ -77,13 +80,13 @@ abbrev pub published : List (List Case)
 published =
     map (leaves refusal.accepted) ((15 ∷ 17 ∷ 19 ∷ 21 ∷ 23 ∷ 24 ∷ 24 ∷ []) ∷ (2 ∷ 0 ∷ 2 ∷ []) ∷ (15 ∷ []) ∷ [] ∷ [])
     ∷ map (leaves refusal.accepted) ((6 ∷ 4 ∷ 4 ∷ 2 ∷ 2 ∷ []) ∷ (6 ∷ 6 ∷ 6 ∷ 4 ∷ 4 ∷ 2 ∷ []) ∷ [])
-    ∷ map (λ n. answers (gives n)) (84 ∷ 42 ∷ 21 ∷ [])
-    ∷ map (λ n. answers (gives n)) (13 ∷ 7 ∷ 4 ∷ [])
+    ∷ map (λ n. answers (gives n)) (84 ∷ 42 ∷ 21 ∷ 13 ∷ 7 ∷ 4 ∷ [])
     ∷ map (λ n. number (pos n)) (64 ∷ 65 ∷ 3072 ∷ [])
     ∷ map number (negℤ (pos 512) ∷ negℤ (pos 128) ∷ pos 128 ∷ pos 512 ∷ [])
     ∷ map (λ n. answers (gives n)) (16 ∷ 15 ∷ 31 ∷ [])
     -- zero bits to the byte: 10011000 11000000 and 11011100
-    ∷ (writes (gives 10) (bits (1 ∷ 0 ∷ 0 ∷ 1 ∷ 1 ∷ 0 ∷ 0 ∷ 0 ∷ 1 ∷ 1 ∷ [])) (152 ∷ 192 ∷ 255 ∷ []) ∷ writes (gives 7) (bits (1 ∷ 1 ∷ 0 ∷ 1 ∷ 1 ∷ 1 ∷ 0 ∷ [])) (220 ∷ 255 ∷ []) ∷ [])
+    ∷ (writes (gives 10) (bits (1 ∷ 0 ∷ 0 ∷ 1 ∷ 1 ∷ 0 ∷ 0 ∷ 0 ∷ 1 ∷ 1 ∷ [])) (152 ∷ 192 ∷ 255 ∷ [])
+    ∷ writes (gives 7) (bits (1 ∷ 1 ∷ 0 ∷ 1 ∷ 1 ∷ 1 ∷ 0 ∷ [])) (220 ∷ 255 ∷ []) ∷ [])
     ∷ map (λ n. answers (gives n)) (10 ∷ 24 ∷ 0 ∷ [])
     ∷ []
 
