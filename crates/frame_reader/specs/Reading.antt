@@ -8,7 +8,7 @@ use lib.ListN.{length}
 use Rattle.bits.specs.Read.{from}
 use Rattle.bits.specs.Reading.{Outcome, ok, fault}
 use Rattle.bits.specs.Refusal as refusal
-use Rattle.frame.specs.Answers.{readingOf, readInto}
+use Rattle.frame.specs.Answers.{readingOf, expsRead, bapRead, codesRead, readInto}
 use Rattle.frame.specs.Body.{bapRow}
 use Rattle.frame.specs.Layout.{channels}
 use Rattle.frame.specs.Reader.{Frame, grown, readBlock}

@@ -16,8 +16,8 @@ use Rattle.frame.specs.Layout.{channels, rowOf, clean, cleanRow}
 use Rattle.frame.specs.LayoutLaws.{length-row, length-bapRow, length-cleanRow}
 use Rattle.frame.specs.Under.{Under, held-channels, channels-some}
 use Rattle.frame.specs.declared.track.Track.{Track}
+use Rattle.frame_rows.specs.Inner.{noRow, noBuffer}
 use Rattle.frame_rows.specs.Rows.{bapsOf, cleaned}
-pub use Rattle.frame_rows.specs.Rows.{noRow, noBuffer}
 
 -- ---- buffers that are all 0
 

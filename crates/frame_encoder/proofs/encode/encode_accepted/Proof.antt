@@ -8,7 +8,8 @@ use borrow.Author.Needs.{needs}
 use Rattle.frame.specs.Answers.{bodyLeft}
 use Rattle.frame.specs.Body.{bodyBits}
 use Rattle.frame_rows.specs.Rows.{bapsOf}
-use Rattle.frame_rows.specs.RowsLaws.{noBuffer, length-noBuffer, front-lent, front-room, front-filled, held-most}
+use Rattle.frame_rows.specs.Inner.{noBuffer}
+use Rattle.frame_rows.specs.RowsLaws.{length-noBuffer, front-lent, front-room, front-filled, held-most}
 use Rattle.frame_runs.specs.Runs.{expsOf}
 use Rattle.frame_encoder.specs.Codes.{codesOf}
 use Rattle.frame_encoder.specs.CodesLegal.{encoded-made}
