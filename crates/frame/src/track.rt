@@ -29,7 +29,6 @@ pub fn set_at(strategies: [[BlockSet; 6]; 6], b: usize, c: usize) -> ExponentSet
     requires { ⌜ (b < 6) × (c < 6) ⌝ }
     ensures { λ r. ⌜ r ≡ setIn strategies c b ⌝ }
 {
-    let row = strategies[c];
-    let block = row[b];
+    let block = strategies[c][b];
     block.set
 }
