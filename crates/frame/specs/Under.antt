@@ -1,6 +1,6 @@
 -- What the frame's functions hold by value of an accepted sheet (document 01, "The track sheet"), and what is known of each of its channels.
 use Prim.Native.Nat.{ℕ, _≤_, _<_}
-use mathlib.Core.Path.{_≡_, refl, ap, _∙_}
+use mathlib.Core.Path.{_≡_, refl, ap}
 use mathlib.Core.Bool.{true}
 use mathlib.Core.List.{List}
 use native.Mathlib.Omega.{arith}

@@ -1,6 +1,6 @@
 -- Laws of the ranges: what the tests show, in the form of specs/Legal, of the common part, of an end, and of a whole record.
 use Prim.Native.Nat.{ℕ, _-_, _%_, _≤_, _<_}
-use mathlib.Core.Path.{_≡_, refl, sym, _∙_}
+use mathlib.Core.Path.{_≡_, sym, _∙_}
 use mathlib.Core.List.{List}
 use mathlib.Core.Bool.{Bool, true, false, not, _&&_, _||_, or-false, or-true, true≢false}
 use mathlib.Core.Logic.{⊎-elim}
