@@ -65,15 +65,15 @@ tab-more f l i v h e q = rw (joined-more i (λ i. f i ∷ []), add-one i, take-s
 pub tab-end : {A : Type 0} (f : ℕ → A) (l : List A) (i n : ℕ) → i ≡ n → length l ≡ n → take i l ≡ tab i f → l ≡ tab n f
 tab-end f l i n q h e = sym (take-length l) ∙ ap (λ (m : ℕ). take m l) (h ∙ sym q) ∙ e ∙ ap (λ (m : ℕ). tab m f) q
 
-pub tab-cong : (f g : ℕ → ℕ) (n : ℕ) → ((i : ℕ) → i < n → f i ≡ g i) → tab n f ≡ tab n g
+pub tab-cong : {A : Type 0} (f g : ℕ → A) (n : ℕ) → ((i : ℕ) → i < n → f i ≡ g i) → tab n f ≡ tab n g
 unfolding tab
-tab-cong f g n h = joined-cong (λ i. f i ∷ []) (λ i. g i ∷ []) n (λ i l. ap (λ (x : ℕ). x ∷ []) (h i l))
+tab-cong {A} f g n h = joined-cong (λ i. f i ∷ []) (λ i. g i ∷ []) n (λ i l. ap (λ (x : A). x ∷ []) (h i l))
 
 -- a list is its entries
-pub tab-list : (l : List ℕ) (n : ℕ) → n ≤ length l → tab n (λ i. getD l i 0) ≡ take n l
+pub tab-list : {A : Type 0} (d : A) (l : List A) (n : ℕ) → n ≤ length l → tab n (λ i. getD l i d) ≡ take n l
 unfolding tab joined
-tab-list l zero h = refl
-tab-list l (suc n) h = ap (λ (t : List ℕ). t ++ (getD l n 0 ∷ [])) (tab-list l n (omega arith)) ∙ sym (take-suc l n 0 (omega arith))
+tab-list d l zero h = refl
+tab-list {A} d l (suc n) h = ap (λ (t : List A). t ++ (getD l n d ∷ [])) (tab-list d l n (omega arith)) ∙ sym (take-suc l n d (omega arith))
 
 -- the first i pieces
 pub pieces : (z : ℕ) (l : List ℕ) (i : ℕ) → joined i (λ j. piece z j l) ≡ take (z * i) l

@@ -76,7 +76,7 @@ front-zeros f n m h none =
     let k : length l ≡ m - n = rw (length-drop, length-replicate) refl in
     let z : n + (m - n) ≡ m = omega arith in
     let each : (i : ℕ) → i < m - n → f (n + i) ≡ getD l i 0 = λ i u. none (n + i) (omega arith) (omega arith) ∙ sym (getD-drop n (replicate m 0) i 0 ∙ getD-replicate m (n + i) 0 0 (omega arith)) in
-    let e : tab (m - n) (λ i. f (n + i)) ≡ l = tab-cong (λ i. f (n + i)) (λ i. getD l i 0) (m - n) each ∙ tab-list l (m - n) (omega arith) ∙ ap (λ (j : ℕ). take j l) (sym k) ∙ take-length l in
+    let e : tab (m - n) (λ i. f (n + i)) ≡ l = tab-cong (λ i. f (n + i)) (λ i. getD l i 0) (m - n) each ∙ tab-list 0 l (m - n) (omega arith) ∙ ap (λ (j : ℕ). take j l) (sym k) ∙ take-length l in
     rw (sym e) (tab-split f n (m - n) ∙ ap (λ (j : ℕ). tab j f) z)
 
 pub tab-zeros : (f : ℕ → ℕ) (n : ℕ) → ((i : ℕ) → i < n → f i ≡ 0) → replicate n 0 ≡ tab n f

@@ -33,7 +33,7 @@ fits sheet n = eqb n (bufferLength (channels sheet))
 abbrev pub must : Bool → ℕ → FrameAnswer → FrameAnswer
 must test number answer = cond test answer (turnedBack number)
 
--- causes 1 and 2, which stand before all others
+-- causes 1, 2 and 11, which stand before all others
 abbrev pub sheetFirst : List ℕ → FrameAnswer → FrameAnswer
 sheetFirst sheet answer = must (eqb (checkOf sheet) refusal.accepted) (checkOf sheet) answer
 
@@ -41,7 +41,7 @@ sheetFirst sheet answer = must (eqb (checkOf sheet) refusal.accepted) (checkOf s
 abbrev pub hasRoom : ℕ → List Bool → Bool
 hasRoom size bits = not (ltb size (bytesFor (length bits)))
 
--- ---- the second entry: 1, 2, 10, 4, 5, 6
+-- ---- the second entry: 1, 2, 11, 10, 4, 5, 6
 
 -- `size` is the output's length in bytes
 unfoldable pub writeAnswer : List ℕ → List ℕ → List ℕ → ℕ → FrameAnswer
@@ -57,7 +57,7 @@ writeAnswer sheet exps codes size =
 unfoldable pub bodyLeft : FrameAnswer → List Bool → List ℕ → List ℕ
 bodyLeft a bits out = cond (eqb (a .refusal) refusal.accepted) (stored bits out) out
 
--- ---- the reader: 1, 2, 10, then 7, 8, 9 as met
+-- ---- the reader: 1, 2, 11, 10, then 7, 8, 9 as met
 
 -- the counts and how many bits were read, or the fault that was met
 unfoldable pub readingOf : List Bool → Outcome Frame → FrameAnswer
@@ -90,7 +90,7 @@ unfoldable pub readInto : (Frame → List ℕ) → ℕ → Outcome Frame → Lis
 readInto part n (ok frame rest) = part frame
 readInto part n (fault number) = replicate n 0
 
--- whether the reading is begun: neither 1 nor 2 nor 10 is given
+-- whether the reading is begun: none of 1, 2, 11 and 10 is given
 abbrev pub reached : List ℕ → ℕ → ℕ → ℕ → Bool
 reached sheet exps bap codes = eqb (checkOf sheet) refusal.accepted && readable sheet exps bap codes
 

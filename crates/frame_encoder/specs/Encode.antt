@@ -1,5 +1,5 @@
 -- What `encode_body` answers and leaves (document 01, "The frame body", "When a call is turned back"): the tests in the table's order,
--- 1, 2, 10, 3, 6. A refusal leaves every buffer as it was.
+-- 1, 2, 11, 10, 3, 6. A refusal leaves every buffer as it was.
 use Prim.Native.Nat.{ℕ}
 use mathlib.Core.Bool.{Bool, cond, _&&_}
 use mathlib.Core.List.{List}

@@ -71,7 +71,7 @@ fn read_frame(
     r
 }
 
-// Document 01, "When a call is turned back": 1, 2, 10, then 7, 8, 9 as met.
+// Document 01, "When a call is turned back": 1, 2, 11, 10, then 7, 8, 9 as met.
 pub fn read_body(
     sheet: &[u8],
     input: &[u8],

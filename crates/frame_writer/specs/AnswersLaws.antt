@@ -35,7 +35,7 @@ pub under-sized : {sheet : List ℕ} {track : Track} {strategies : List (List Bl
 under-sized u exps codes e c = record { accepted = u .accepted; exps-long = rw (held-channels u) at e; codes-long = rw (held-channels u) at c }
 
 module _ (sheet exps codes : List ℕ) (size : ℕ) where
-  -- 1 and 2
+  -- 1, 2 and 11
   pub write-sheet : (checkOf sheet ≡ refusal.accepted → ⊥) → turnedBack (checkOf sheet) ≡ writeAnswer sheet exps codes size
   unfolding writeAnswer
   write-sheet h = rw (ne-eqb (checkOf sheet) refusal.accepted h)

@@ -1,6 +1,6 @@
 -- What the entries for hosts answer and leave, given what the call behind each of them answers (document 01, "When a call is turned back").
 -- An entry returns an exponent, a strategy, codes or counts in a small result slice, which must have exactly its length: another is a wrong
--- length (10), and the call is not made. In the table's order that stands after 1 and 2 and before all others. On every refusal a result
+-- length (10), and the call is not made. In the table's order that stands after 1, 2 and 11 and before all others. On every refusal a result
 -- slice of its length holds 0.
 use mathlib.Core.Bool.{Bool, cond, not, _&&_}
 use mathlib.Core.List.{List, []}
@@ -13,7 +13,7 @@ use Rattle.bits.specs.Refusal as refusal
 use Rattle.shaping.specs.Strategies.{selectRefusal, selected}
 use Rattle.sheet.specs.Common.{commonOf, channelsOf}
 use Rattle.sheet.specs.Record.{recordOf}
-use Rattle.sheet.specs.Sheet.{checkOf}
+use Rattle.sheet.specs.Sheet.{checkOf, checkBeside}
 
 -- a result slice has its n entries
 abbrev pub hasLength : ℕ → List ℕ → Bool
@@ -21,7 +21,7 @@ hasLength n slot = eqb (length slot) n
 
 -- ---- the number, where `right` says that each result slice has its length
 
--- of a call that refuses neither with 1 nor with 2
+-- of a call that takes no sheet and refuses no number with 2
 unfoldable pub lengthFirst : Bool → ℕ → ℕ
 lengthFirst right number = cond right number refusal.wrongLength
 
@@ -57,20 +57,21 @@ unfoldable pub selectRows : List ℕ → List ℕ → List ℕ
 selectRows exps ends =
     cond (eqb (selectRefusal exps ends) refusal.accepted) (rowsOf (selected exps ends) (length ends)) (replicate (6 * length ends) 0)
 
--- ---- the allocation of a channel of a sheet: the sheet, then whether it has that channel; then the call, with the channel's end
+-- ---- the allocation of a channel of a sheet: the sheet, with whether it has that channel; then the call, with the channel's end
+
+abbrev pub allocationCheck : List ℕ → ℕ → ℕ
+allocationCheck sheet channel = checkBeside (ltb channel (channelsOf (commonOf sheet))) sheet
 
 unfoldable pub allocationNumber : List ℕ → ℕ → List ℕ → ℕ → ℕ
 allocationNumber sheet channel exp size =
-    cond (not (eqb (checkOf sheet) refusal.accepted)) (checkOf sheet)
-    (cond (not (ltb channel (channelsOf (commonOf sheet)))) refusal.outOfRange
-    (answerOf (commonOf sheet) (recordOf sheet channel) (recordOf sheet channel .end) exp size))
+    cond (not (eqb (allocationCheck sheet channel) refusal.accepted)) (allocationCheck sheet channel)
+    (answerOf (commonOf sheet) (recordOf sheet channel) (recordOf sheet channel .end) exp size)
 
 -- bap afterwards: a sheet or a channel that is refused leaves it
 unfoldable pub allocationLeft : List ℕ → ℕ → List ℕ → List ℕ → List ℕ
 allocationLeft sheet channel exp bap =
-    cond (not (eqb (checkOf sheet) refusal.accepted)) bap
-    (cond (not (ltb channel (channelsOf (commonOf sheet)))) bap
-    (leftIn (commonOf sheet) (recordOf sheet channel) (recordOf sheet channel .end) exp bap))
+    cond (not (eqb (allocationCheck sheet channel) refusal.accepted)) bap
+    (leftIn (commonOf sheet) (recordOf sheet channel) (recordOf sheet channel .end) exp bap)
 
 -- ---- the frame's reader: twelve counts, and the number of bits
 

@@ -2,9 +2,9 @@
 use mathlib.Core.Path.{_≡_, refl, ap, _∙_}
 use mathlib.Core.Bool.{Bool, true, false, _&&_}
 use mathlib.Core.List.{List, [], _∷_}
-use Prim.Native.Nat.{ℕ, _*_, _/_, _%_, _≤_, _<_}
+use Prim.Native.Nat.{ℕ, _*_, _/_, _%_}
 use native.Mathlib.Omega.{arith}
-use borrow.Author.Tests.{eqb-true, eqb-false, eq-eqb, ne-eqb, lt-ltb, le-ltb}
+use borrow.Author.Tests.{eqb-true, eqb-false, eq-eqb, ne-eqb}
 use lib.Dec.{eqb}
 use lib.ListN.{length, set, replicate}
 use Rattle.allocation.specs.Allocation.{answerOf, leftIn}
@@ -16,12 +16,12 @@ use Rattle.frame.specs.Answers.{bodyLeft}
 use Rattle.frame.specs.declared.answer.FrameAnswer.{FrameAnswer}
 use Rattle.frame_encoder.specs.Encode.{left}
 use Rattle.shaping.specs.Strategies.{selectRefusal, selected}
-use Rattle.sheet.specs.Common.{commonOf, channelsOf}
+use Rattle.sheet.specs.Common.{commonOf}
 use Rattle.sheet.specs.Record.{recordOf}
 use Rattle.sheet.specs.Sheet.{checkOf}
 use Rattle.sheet.specs.declared.common_part.Common.{Common}
 use Rattle.sheet.specs.declared.record.ChannelRecord.{ChannelRecord}
-use Rattle.host.specs.Entries.{lengthFirst, rangeFirst, sheetFirst, returned, ifCalled, selectNumber, rowsOf, selectRows, allocationNumber, allocationLeft, rightSlots}
+use Rattle.host.specs.Entries.{lengthFirst, rangeFirst, sheetFirst, returned, ifCalled, selectNumber, rowsOf, selectRows, allocationCheck, allocationNumber, allocationLeft, rightSlots}
 
 -- a store to the one entry
 pub set-one : (l : List ℕ) (v : ℕ) → length l ≡ 1 → set l 0 v ≡ v ∷ []
@@ -192,22 +192,18 @@ module _ (exps ends slot slot' : List ℕ) (long : length slot ≡ 6 * length en
 -- ---- the allocation
 
 module _ (sheet : List ℕ) (channel : ℕ) (exp bap : List ℕ) where
-  pub allocation-sheet : (checkOf sheet ≡ refusal.accepted → ⊥)
-      → (checkOf sheet ≡ allocationNumber sheet channel exp (length bap)) × (bap ≡ allocationLeft sheet channel exp bap)
+  pub allocation-refused : (allocationCheck sheet channel ≡ refusal.accepted → ⊥)
+      → (allocationCheck sheet channel ≡ allocationNumber sheet channel exp (length bap)) × (bap ≡ allocationLeft sheet channel exp bap)
   unfolding allocationNumber allocationLeft
-  allocation-sheet h = (rw (ne-eqb (checkOf sheet) refusal.accepted h), rw (ne-eqb (checkOf sheet) refusal.accepted h))
+  allocation-refused h = (rw (ne-eqb (allocationCheck sheet channel) refusal.accepted h), rw (ne-eqb (allocationCheck sheet channel) refusal.accepted h))
 
-  pub allocation-channel : checkOf sheet ≡ refusal.accepted → channelsOf (commonOf sheet) ≤ channel
-      → (refusal.outOfRange ≡ allocationNumber sheet channel exp (length bap)) × (bap ≡ allocationLeft sheet channel exp bap)
-  unfolding allocationNumber allocationLeft
-  allocation-channel e h = (rw (eq-eqb (checkOf sheet) refusal.accepted e, le-ltb _ _ h), rw (eq-eqb (checkOf sheet) refusal.accepted e, le-ltb _ _ h))
-
-  pub allocation-called : (common : Common) (chosen : ChannelRecord) (number : ℕ) (bap' : List ℕ) → checkOf sheet ≡ refusal.accepted
-      → channel < channelsOf (commonOf sheet) → common ≡ commonOf sheet → chosen ≡ recordOf sheet channel
+  pub allocation-called : (common : Common) (chosen : ChannelRecord) (number : ℕ) (bap' : List ℕ) → allocationCheck sheet channel ≡ refusal.accepted
+      → common ≡ commonOf sheet → chosen ≡ recordOf sheet channel
       → number ≡ answerOf common chosen (chosen .end) exp (length bap) → bap' ≡ leftIn common chosen (chosen .end) exp bap
       → (number ≡ allocationNumber sheet channel exp (length bap)) × (bap' ≡ allocationLeft sheet channel exp bap)
   unfolding allocationNumber allocationLeft
-  allocation-called common chosen number bap' e h p q a l =
+  allocation-called common chosen number bap' e p q a l =
       let answer = a ∙ ap (λ (k : Common). answerOf k chosen (chosen .end) exp (length bap)) p ∙ ap (λ (r : ChannelRecord). answerOf (commonOf sheet) r (r .end) exp (length bap)) q in
       let left = l ∙ ap (λ (k : Common). leftIn k chosen (chosen .end) exp bap) p ∙ ap (λ (r : ChannelRecord). leftIn (commonOf sheet) r (r .end) exp bap) q in
-      (rw (eq-eqb (checkOf sheet) refusal.accepted e, lt-ltb _ _ h) answer, rw (eq-eqb (checkOf sheet) refusal.accepted e, lt-ltb _ _ h) left)
+      let passes = eq-eqb (allocationCheck sheet channel) refusal.accepted e in
+      (rw passes answer, rw passes left)

@@ -1,4 +1,4 @@
--- What the program answers (document 01, "The frame body"): 1 and 2 of the sheet; "too few or too many coefficient bytes are 10", which
+-- What the program answers (document 01, "The frame body"): 1, 2 and 11 of the sheet; "too few or too many coefficient bytes are 10", which
 -- are others than four for each of 6 × C × 256 entries; then what `encode_body` answers.
 use Prim.Native.Nat.{ℕ, _*_}
 use mathlib.Core.List.{List}

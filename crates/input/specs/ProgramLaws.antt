@@ -58,7 +58,7 @@ module _ (input : List ℕ) (size : ℕ) (e : size ≡ sheetSize input) where
   unfolding coefficientBytes
   bytes-read = ap (λ (k : ℕ). drop k input) e
 
-  -- 1 and 2
+  -- 1, 2 and 11
   pub program-sheet : (number : ℕ) (r : FrameAnswer) → number ≡ checkOf (take (size - 0) input) → (number ≡ refusal.accepted → ⊥) → r ≡ turnedBack number
       → r ≡ programAnswer input
   unfolding programAnswer

@@ -33,7 +33,7 @@ blocksAnswer channels ends bap =
     (cond (not (bapsFit (joined 6 (blockBaps channels ends bap)))) (noBits refusal.badCode)
     (record { refusal = refusal.accepted; counts = tab 6 (λ block. bitCount (blockBaps channels ends bap block)) }))
 
--- `mantissa_bits_total_ends`: 1 and 2 as `check_sheet` finds them, then as above
+-- `mantissa_bits_total_ends`: 1, 2 and 11 as `check_sheet` finds them, then as above
 unfoldable pub totalAnswer : List ℕ → List ℕ → MantissaBits
 totalAnswer sheet bap =
     cond (not (eqb (checkOf sheet) refusal.accepted)) (noBits (checkOf sheet))

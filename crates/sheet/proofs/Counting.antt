@@ -6,12 +6,13 @@ use Prim.Native.Nat.{ℕ, zero, suc, _+_, _-_, _≤_, _<_}
 use native.Mathlib.Omega.{arith}
 use lib.ListN.{length, getD, take, drop, length-drop, drop-of-length-le}
 use lib.Seq.{drop-drop, take-all, drop-length}
-use lib.Dec.{eqb}
-use borrow.Author.Tests.{eq-eqb, ne-eqb}
+use lib.Dec.{leb, eqb}
 use Rattle.bits.specs.Tests.{both}
 use Rattle.sheet.specs.Grammar.{recordSize, countOff, recordsFrom, every}
 use Rattle.sheet.specs.Inner.{EndsAt}
-use Rattle.sheet.specs.Record.{channelOf, ofChannel}
+use Rattle.sheet.specs.Record.{channelOf}
+use Rattle.sheet.specs.Ranges.{ofChannel}
+use Rattle.sheet.specs.OrderLaws.{ascendingFrom}
 
 -- the bytes of the record before are passed over
 count-off-skip : (k : ℕ) (l : List ℕ) → countOff k l ≡ countOff 0 (drop k l)
@@ -71,9 +72,22 @@ module _ (c : ℕ) {l rs : List (List ℕ)} {r : List ℕ} (e : l ≡ r ∷ rs) 
       by-cases true = omega arith
       by-cases false = omega arith
 
-  -- the first record of the channel is this one, or it is among those after it
-  pub found-here : channelOf r ≡ c → getD (ofChannel c l) 0 [] ≡ r
-  found-here h = rw (e, eq-eqb (channelOf r) c h)
+-- the order: one record more, and none left
+module _ (least : ℕ) {l : List (List ℕ)} where
+  pub order-step : {r : List ℕ} {rs : List (List ℕ)} → l ≡ r ∷ rs → (all : Bool)
+      → (all && leb least (channelOf r) && ascendingFrom (channelOf r + 1) rs) ≡ (all && ascendingFrom least l)
+  order-step {r} {rs} e all = and-assoc all (leb least (channelOf r)) (ascendingFrom (channelOf r + 1) rs) ∙ sym (ap (λ (k : List (List ℕ)). all && ascendingFrom least k) e)
 
-  pub found-later : (channelOf r ≡ c → ⊥) → ofChannel c l ≡ ofChannel c rs
-  found-later h = rw (e, ne-eqb (channelOf r) c h)
+  pub order-done : l ≡ [] → (all : Bool) → all ≡ (all && ascendingFrom least l)
+  order-done e all = sym (and-true all) ∙ sym (ap (λ (k : List (List ℕ)). all && ascendingFrom least k) e)
+
+-- the record at a place is the next one, or one of those after it
+module _ {l rs : List (List ℕ)} {r : List ℕ} (e : l ≡ r ∷ rs) where
+  pub found-here : (k : ℕ) → k ≡ 0 → getD l k [] ≡ r
+  found-here k z = rw (e, z)
+
+  pub found-later : (k : ℕ) → (k ≡ 0 → ⊥) → getD l k [] ≡ getD rs (k - 1) []
+  found-later zero h = absurd (h refl)
+  found-later (suc k) h =
+      let before : k ≡ suc k - 1 = omega arith in
+      rw e (ap (λ (n : ℕ). getD rs n []) before)

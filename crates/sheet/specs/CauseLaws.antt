@@ -1,4 +1,4 @@
--- Each number of the sheet's check is given only for its cause (Cause.antt), and exactly there.
+-- Each number of the sheet's check is given only for its cause (Cause.antt), and exactly there. And the check beside a number of the call.
 use Prim.Native.Nat.{ℕ}
 use mathlib.Core.Path.{_≡_, refl, subst}
 use mathlib.Core.List.{List}
@@ -8,52 +8,72 @@ use native.Mathlib.Omega.{arith}
 use Rattle.bits.specs.Refusal as refusal
 use Rattle.sheet.specs.Grammar.{structured}
 use Rattle.sheet.specs.Ranges.{inRange}
-use Rattle.sheet.specs.Sheet.{checkOf}
-use Rattle.sheet.specs.Cause.{Cause, structure, range, none}
+use Rattle.sheet.specs.Order.{inOrder}
+use Rattle.sheet.specs.Sheet.{checkOf, checkBeside}
+use Rattle.sheet.specs.Cause.{Cause, structure, range, order, none}
 
 -- the number of every sheet has its cause
 pub check-cause : (s : List ℕ) → Cause s (checkOf s)
-check-cause s = by-tests (structured s) (inRange s) refl refl
+check-cause s = by-tests (structured s) (inRange s) (inOrder s) refl refl refl
   where
-    by-tests : (a b : Bool) → structured s ≡ a → inRange s ≡ b → Cause s (cond (not a) refusal.structure (cond (not b) refusal.outOfRange refusal.accepted))
-    by-tests false b a-is b-is = structure a-is
-    by-tests true false a-is b-is = range a-is b-is
-    by-tests true true a-is b-is = none a-is b-is
+    by-tests : (a b c : Bool) → structured s ≡ a → inRange s ≡ b → inOrder s ≡ c
+        → Cause s (cond (not a) refusal.structure (cond (not b) refusal.outOfRange (cond (not c) refusal.outOfOrder refusal.accepted)))
+    by-tests false b c a-is b-is c-is = structure a-is
+    by-tests true false c a-is b-is c-is = range a-is b-is
+    by-tests true true false a-is b-is c-is = order a-is b-is c-is
+    by-tests true true true a-is b-is c-is = none a-is b-is c-is
 
 pub cause-of : (s : List ℕ) (m : ℕ) → checkOf s ≡ m → Cause s m
 cause-of s m e = subst (Cause s) e (check-cause s)
 
 -- what a cause says, by its number
-structure-cause : {s : List ℕ} → Cause s refusal.structure → structured s ≡ false
-structure-cause k = says k refl
-  where
-    says : {s : List ℕ} {m : ℕ} → Cause s m → m ≡ refusal.structure → structured s ≡ false
-    says (structure a) e = a
-    says (range a b) e = absurd (omega arith)
-    says (none a b) e = absurd (omega arith)
+structure-cause : {s : List ℕ} {m : ℕ} → Cause s m → m ≡ refusal.structure → structured s ≡ false
+structure-cause (structure a) e = a
+structure-cause (range a b) e = absurd (omega arith)
+structure-cause (order a b c) e = absurd (omega arith)
+structure-cause (none a b c) e = absurd (omega arith)
 
-range-cause : {s : List ℕ} → Cause s refusal.outOfRange → (structured s ≡ true) × (inRange s ≡ false)
-range-cause k = says k refl
-  where
-    says : {s : List ℕ} {m : ℕ} → Cause s m → m ≡ refusal.outOfRange → (structured s ≡ true) × (inRange s ≡ false)
-    says (structure a) e = absurd (omega arith)
-    says (range a b) e = (a, b)
-    says (none a b) e = absurd (omega arith)
+range-cause : {s : List ℕ} {m : ℕ} → Cause s m → m ≡ refusal.outOfRange → (structured s ≡ true) × (inRange s ≡ false)
+range-cause (structure a) e = absurd (omega arith)
+range-cause (range a b) e = (a, b)
+range-cause (order a b c) e = absurd (omega arith)
+range-cause (none a b c) e = absurd (omega arith)
 
-none-cause : {s : List ℕ} → Cause s refusal.accepted → (structured s ≡ true) × (inRange s ≡ true)
-none-cause k = says k refl
-  where
-    says : {s : List ℕ} {m : ℕ} → Cause s m → m ≡ refusal.accepted → (structured s ≡ true) × (inRange s ≡ true)
-    says (structure a) e = absurd (omega arith)
-    says (range a b) e = absurd (omega arith)
-    says (none a b) e = (a, b)
+order-cause : {s : List ℕ} {m : ℕ} → Cause s m → m ≡ refusal.outOfOrder → (structured s ≡ true) × (inRange s ≡ true) × (inOrder s ≡ false)
+order-cause (structure a) e = absurd (omega arith)
+order-cause (range a b) e = absurd (omega arith)
+order-cause (order a b c) e = (a, b, c)
+order-cause (none a b c) e = absurd (omega arith)
 
--- 1, 2 and 0 exactly where their causes are
-pub structure-exactly : (s : List ℕ) → (checkOf s ≡ refusal.structure) ↔ (structured s ≡ false)
-structure-exactly s = (λ e. structure-cause (cause-of s refusal.structure e), λ a. rw a)
+none-cause : {s : List ℕ} {m : ℕ} → Cause s m → m ≡ refusal.accepted → (structured s ≡ true) × (inRange s ≡ true) × (inOrder s ≡ true)
+none-cause (structure a) e = absurd (omega arith)
+none-cause (range a b) e = absurd (omega arith)
+none-cause (order a b c) e = absurd (omega arith)
+none-cause (none a b c) e = (a, b, c)
 
-pub range-exactly : (s : List ℕ) → (checkOf s ≡ refusal.outOfRange) ↔ ((structured s ≡ true) × (inRange s ≡ false))
-range-exactly s = (λ e. range-cause (cause-of s refusal.outOfRange e), λ a. rw (a .0, a .1))
+-- 1, 2, 11 and 0 exactly where their causes are
+module _ (s : List ℕ) where
+  pub structure-exactly : (checkOf s ≡ refusal.structure) ↔ (structured s ≡ false)
+  structure-exactly = (structure-cause (check-cause s), λ a. rw a)
 
-pub accepted-exactly : (s : List ℕ) → (checkOf s ≡ refusal.accepted) ↔ ((structured s ≡ true) × (inRange s ≡ true))
-accepted-exactly s = (λ e. none-cause (cause-of s refusal.accepted e), λ a. rw (a .0, a .1))
+  pub range-exactly : (checkOf s ≡ refusal.outOfRange) ↔ ((structured s ≡ true) × (inRange s ≡ false))
+  range-exactly = (range-cause (check-cause s), λ a. rw (a .0, a .1))
+
+  pub order-exactly : (checkOf s ≡ refusal.outOfOrder) ↔ ((structured s ≡ true) × (inRange s ≡ true) × (inOrder s ≡ false))
+  order-exactly = (order-cause (check-cause s), λ a. rw (a .0, a .1, a .2))
+
+  pub accepted-exactly : (checkOf s ≡ refusal.accepted) ↔ ((structured s ≡ true) × (inRange s ≡ true) × (inOrder s ≡ true))
+  accepted-exactly = (none-cause (check-cause s), λ a. rw (a .0, a .1, a .2))
+
+-- ---- beside numbers of the call: those in range change nothing, others are a 2 where the structure is right
+
+module _ (s : List ℕ) where
+  pub beside-structure : (inside : Bool) → checkOf s ≡ refusal.structure → checkOf s ≡ checkBeside inside s
+  beside-structure inside e = rw (structure-exactly s .0 e)
+
+  pub beside-out-of-range : (checkOf s ≡ refusal.structure → ⊥) → refusal.outOfRange ≡ checkBeside false s
+  beside-out-of-range h = by-test (structured s) (λ a. h (structure-exactly s .1 a))
+    where
+      by-test : (a : Bool) → (a ≡ false → ⊥) → refusal.outOfRange ≡ cond (not a) refusal.structure refusal.outOfRange
+      by-test true h = refl
+      by-test false h = absurd (h refl)

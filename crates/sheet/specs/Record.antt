@@ -83,16 +83,11 @@ channelRecord r =
       ba = columnOf r baAt;
     }
 
--- ---- the record of a channel: "one record per channel, in any order"
+-- ---- the record of a channel: one for each, in ascending channel number (document 02, W1), so that of channel c has c before it
 
--- those of a list of records that are of channel c
-abbrev pub ofChannel : ℕ → List (List ℕ) → List (List ℕ)
-ofChannel c [] = []
-ofChannel c (r ∷ rs) = cond (eqb (channelOf r) c) (r ∷ ofChannel c rs) (ofChannel c rs)
-
--- the bytes of channel c's record: the first where there are several, none where there is none
+-- its bytes, none where there is none
 abbrev pub recordBytes : List ℕ → ℕ → List ℕ
-recordBytes s c = getD (ofChannel c (recordsOf s)) 0 []
+recordBytes s c = getD (recordsOf s) c []
 
 abbrev pub recordOf : List ℕ → ℕ → ChannelRecord
 recordOf s c = channelRecord (recordBytes s c)

@@ -1,25 +1,23 @@
--- What a sheet means, whatever the order of its records: document 01, "The track sheet", "one record per channel, in any order".
+-- What a sheet sets, wherever its records stand: document 01, "The track sheet", and document 02, W1.
 use Prim.Native.Nat.{ℕ}
-use mathlib.Core.Path.{_≡_}
-use mathlib.Core.List.{List, List·Permᴰ}
-use lib.ListN.{take}
+use mathlib.Core.List.{List, []}
+use lib.ListN.{getD}
 use Rattle.bits.specs.Parts.{tab}
 use Rattle.sheet.specs.declared.common_part.Common.{Common}
 use Rattle.sheet.specs.declared.record.ChannelRecord.{ChannelRecord}
-use Rattle.sheet.specs.Grammar.{headSize, recordsOf}
+use Rattle.sheet.specs.Grammar.{recordsOf}
 use Rattle.sheet.specs.Common.{commonOf, channelsOf}
-use Rattle.sheet.specs.Record.{recordOf}
+use Rattle.sheet.specs.Record.{channelRecord}
+use Rattle.sheet.specs.Ranges.{ofChannel}
 
--- the common part, and the record of each channel in the order of their numbers
+-- the common part, and the values of each channel's record
 pub record Settings : Type 0 where
   pub common : Common
   pub records : List ChannelRecord
 
-abbrev pub settingsOf : List ℕ → Settings
-settingsOf s = record { common = commonOf s; records = tab (channelsOf (commonOf s)) (recordOf s) }
+-- the record that has the number of channel c, at whatever place
+abbrev pub recordNumbered : List ℕ → ℕ → List ℕ
+recordNumbered s c = getD (ofChannel c (recordsOf s)) 0 []
 
--- the two sheets differ in the order of their records alone: the records of one are a permutation of the other's
--- (the library's: made of swaps of two that stand side by side)
-pub record Reordered (s t : List ℕ) : Type 0 where
-  pub head : take headSize s ≡ take headSize t
-  pub records : List·Permᴰ (recordsOf s) (recordsOf t)
+abbrev pub settingsOf : List ℕ → Settings
+settingsOf s = record { common = commonOf s; records = tab (channelsOf (commonOf s)) (λ c. channelRecord (recordNumbered s c)) }

@@ -1,9 +1,10 @@
-// The check of a track sheet: its structure, then its ranges.
+// The check of a track sheet: its structure, then its ranges, then the order of its records.
 ghost use mathlib.Core.Path.{_≡_};
 ghost use mathlib.Core.Bool.{true};
 ghost use Rattle.sheet.specs.Grammar.{every, isWhole, lengthMatches, recordsOf};
 ghost use Rattle.sheet.specs.Ranges.{inRange};
-ghost use Rattle.sheet.specs.Sheet.{checkOf};
+ghost use Rattle.sheet.specs.Order.{inOrder};
+ghost use Rattle.sheet.specs.Sheet.{checkOf, checkBeside};
 use crate::common_part::channels_of;
 use crate::common_part::common_in_range;
 use crate::common_part::common_of;
@@ -49,6 +50,24 @@ fn in_range(sheet: &[u8]) -> bool
     }
 }
 
+// Each record's channel number is more than that of the record before it.
+fn in_order(sheet: &[u8]) -> bool
+    ensures { λ r. ⌜ r ≡ inOrder (now (sheet .entry)) ⌝ }
+{
+    let mut all = true;
+    let mut least: usize = 0;
+    let mut at = HEAD_SIZE;
+    while at < sheet.len() {
+        let next = record_end(sheet, at);
+        let bytes = &sheet[at..next];
+        let channel = wide(byte_at(bytes, 0));
+        all = all & (least <= channel);
+        least = channel + 1;
+        at = next;
+    }
+    all
+}
+
 pub fn check_sheet(sheet: &[u8]) -> u32
     ensures { λ r. ⌜ r ≡ checkOf (now (sheet .entry)) ⌝ }
 {
@@ -64,5 +83,19 @@ pub fn check_sheet(sheet: &[u8]) -> u32
     if !in_range(sheet) {
         return bits::refusal::OUT_OF_RANGE;
     }
+    if !in_order(sheet) {
+        return bits::refusal::OUT_OF_ORDER;
+    }
     bits::refusal::ACCEPTED
+}
+
+// The check for a call that takes numbers beside the sheet: one out of its range is a 2 like the sheet's own, so it comes before 11.
+pub fn check_beside(sheet: &[u8], numbers_in_range: bool) -> u32
+    ensures { λ r. ⌜ r ≡ checkBeside numbers_in_range (now (sheet .entry)) ⌝ }
+{
+    let number = check_sheet(sheet);
+    if numbers_in_range | (number == bits::refusal::STRUCTURE) {
+        return number;
+    }
+    bits::refusal::OUT_OF_RANGE
 }

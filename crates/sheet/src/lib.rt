@@ -6,6 +6,7 @@ pub mod ranges;
 pub mod read;
 pub mod record;
 
+pub use check::check_beside;
 pub use check::check_sheet;
 pub use common_part::Common;
 pub use common_part::channels_of;

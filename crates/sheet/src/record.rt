@@ -111,23 +111,24 @@ fn channel_record(bytes: &[u8]) -> ChannelRecord
     }
 }
 
-// The first record of a channel, as its bytes; none where there is none.
+// The record of a channel, as its bytes: as many stand before it as its number says. None where there is none.
 fn record_bytes(sheet: &[u8], channel: usize) -> &[u8]
     ensures { λ r. ⌜ now r ≡ recordBytes (now (sheet .entry)) channel ⌝ }
 {
     let mut at = HEAD_SIZE;
+    let mut left = channel;
     while at < sheet.len() {
         let next = record_end(sheet, at);
-        let bytes = &sheet[at..next];
-        if wide(byte_at(bytes, 0)) == channel {
-            return bytes;
+        if left == 0 {
+            return &sheet[at..next];
         }
+        left = left - 1;
         at = next;
     }
     &sheet[0..0]
 }
 
-// The record of a channel, whatever the order of the records; all 0 where there is none.
+// The record of a channel of an accepted sheet; all 0 where there is none.
 pub fn record_of(sheet: &[u8], channel: usize) -> ChannelRecord
     ensures { λ r. ⌜ r ≡ recordOf (now (sheet .entry)) channel ⌝ }
 {

@@ -1,6 +1,7 @@
-// The edges of the sheet check, document 01, "The track sheet" and "Edges": a line for each case, with the number of the answer.
-// What must be printed is worked out by scripts/sheet-edges-stdout, from document 01 alone.
+// The edges of the sheet check, document 01, "The track sheet" and "Edges", and document 02, W1: a line for each case, with the number of
+// the answer. What must be printed is worked out by scripts/sheet-edges-stdout, from these documents alone.
 pub mod channels;
+pub mod order;
 pub mod sheets;
 pub mod structure;
 pub mod values;
@@ -17,4 +18,8 @@ fn main() {
     channels::counts();
     channels::each_once();
     channels::lfe();
+    order::places_of_the_lfe();
+    order::not_each_once();
+    order::other_faults();
+    order::every_order();
 }

@@ -20,7 +20,7 @@ fn front(bytes: &mut [u8], from: &[u8])
     slices::copy(from, &mut bytes[0..n]);
 }
 
-fn put(bytes: &mut [u8], at: usize, value: u8)
+pub(crate) fn put(bytes: &mut [u8], at: usize, value: u8)
     requires { ⌜ at < length (now bytes) ⌝ }
     ensures { λ r. ⌜ length (now (bytes .exit)) ≡ length (now (bytes .entry)) ⌝ }
 {
@@ -91,13 +91,13 @@ pub(crate) fn extended(label: &[u8], high: u8, low: u8, nseg: u8, size: usize) {
 }
 
 // The first `size` bytes of a sheet of two channels and the LFE, with two bytes changed.
-// The records are the LFE's, that of channel 1 with eight segments, that of channel 0 with one.
+// The records are that of channel 0 with one segment, that of channel 1 with eight, the LFE's.
 pub(crate) fn part(label: &[u8], at: usize, value: u8, also: usize, other: u8, size: usize) {
     let sheet = b"\x00\x46\x01\x01\x02\x01\x02\x01\x01\x02\x04\x0f\
-        \x02\x07\x01\x00\x00\x01\x00\x00\x09\x04\x00\
+        \x00\x25\x01\x00\x00\x02\x00\x03\x00\x00\x01\x1f\x0f\x07\
         \x01\xfd\x03\x00\x02\x01\x00\x00\x0f\x07\x08\
         \x00\x00\x00\x1f\x0f\x07\x01\x02\x03\x04\x05\x06\x07\x08\x07\x0a\x0b\x04\x0d\x0e\x05\x10\x01\x00\
-        \x00\x25\x01\x00\x00\x02\x00\x03\x00\x00\x01\x1f\x0f\x07";
+        \x02\x07\x01\x00\x00\x01\x00\x00\x09\x04\x00";
     changed(label, sheet, at, value, also, other, size);
 }
 
@@ -124,14 +124,14 @@ pub(crate) fn each(name: &[u8], at: usize, values: &[u8]) {
     }
 }
 
-// Five full-bandwidth channels and the LFE, from the last to the first, with one byte changed.
+// Five full-bandwidth channels and the LFE, with one byte changed.
 pub(crate) fn six_channels(label: &[u8], at: usize, value: u8) {
     let sheet = b"\x00\x4c\x01\x02\x05\x01\x03\x03\x03\x03\x07\x3f\
-        \x05\x07\x01\x01\x01\x01\x01\x01\x0f\x07\x00\
-        \x04\x28\x01\x01\x01\x01\x01\x01\x00\x00\x00\
-        \x03\x2b\x02\x02\x02\x02\x02\x02\x00\x00\x00\
-        \x02\x49\x03\x03\x03\x03\x03\x03\x00\x00\x00\
+        \x00\xfa\x03\x00\x00\x00\x00\x00\x00\x00\x00\
         \x01\x85\x01\x00\x00\x03\x00\x00\x00\x00\x00\
-        \x00\xfa\x03\x00\x00\x00\x00\x00\x00\x00\x00";
+        \x02\x49\x03\x03\x03\x03\x03\x03\x00\x00\x00\
+        \x03\x2b\x02\x02\x02\x02\x02\x02\x00\x00\x00\
+        \x04\x28\x01\x01\x01\x01\x01\x01\x00\x00\x00\
+        \x05\x07\x01\x01\x01\x01\x01\x01\x0f\x07\x00";
     changed(label, sheet, at, value, at, value, 78);
 }

@@ -64,12 +64,12 @@ pub(crate) fn long_sheets() {
 
 // The structure is looked at before any range.
 pub(crate) fn two_faults() {
-    edited_twice(b"fscod 3, end 38", 3, 3, 59, 38);
+    edited_twice(b"fscod 3, end 38", 3, 3, 13, 38);
     edited_twice(b"version 2, fscod 3", 2, 2, 3, 3);
-    edited_twice(b"version 2, end 38", 2, 2, 59, 38);
+    edited_twice(b"version 2, end 38", 2, 2, 13, 38);
     edited_twice(b"length one more, fscod 3", 1, 71, 3, 3);
-    edited_twice(b"record cut short, fscod 3", 68, 2, 3, 3);
-    edited_twice(b"record cut short, channel 1 twice", 68, 2, 58, 1);
-    edited_twice(b"nseg 255 of the LFE, end 38", 22, 255, 59, 38);
-    edited_twice(b"version 2, channel 1 twice", 2, 2, 58, 1);
+    edited_twice(b"record cut short, fscod 3", 71, 1, 3, 3);
+    edited_twice(b"record cut short, channel 1 twice", 71, 1, 12, 1);
+    edited_twice(b"nseg 255 of the LFE, end 38", 71, 255, 13, 38);
+    edited_twice(b"version 2, channel 1 twice", 2, 2, 12, 1);
 }

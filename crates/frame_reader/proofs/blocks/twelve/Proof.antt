@@ -17,7 +17,7 @@ unfolding tab joined
 six-tab f = refl
 
 six-entries : (l : List ℕ) → length l ≡ 6 → sixOf (λ i. getD l i 0) ≡ l
-six-entries l n = six-tab (λ i. getD l i 0) ∙ tab-list l 6 (omega arith) ∙ take-all 6 l (omega arith)
+six-entries l n = six-tab (λ i. getD l i 0) ∙ tab-list 0 l 6 (omega arith) ∙ take-all 6 l (omega arith)
 
 returns : tie.Need-returns
 returns c = ap₂ (λ (x y : List ℕ). x ++ y) (six-entries (c .args .t1) (omega arith)) (six-entries (c .args .t2) (omega arith))

@@ -26,7 +26,7 @@ no-deltas offst len ba nseg n l z h e =
     let f = heldDeltas offst len ba nseg in
     let k = nothing-long l e in
     let each : (i : ℕ) → i < n → getD l i 0 ≡ f i = λ i u. rw e (getD-replicate {A = ℕ} 50 i 512 0 (omega arith)) ∙ sym (none-added offst len ba nseg i z) in
-    front-begin f n l (sym (tab-list l n (omega arith)) ∙ tab-cong (λ i. getD l i 0) f n each)
+    front-begin f n l (sym (tab-list 0 l n (omega arith)) ∙ tab-cong (λ i. getD l i 0) f n each)
 
 abbrev Inv-loop : tie.InvT-loop
 Inv-loop offst len ba nseg bands added₀ place₀ band₀ added place band =
