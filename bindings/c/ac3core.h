@@ -2,8 +2,9 @@
  * target/staticlib/libhost.a (x86-64). bindings/c/example.c uses it; scripts/run-examples builds and runs that.
  *
  * ANSWERS. Every entry takes every input and answers 0 (AC3_ACCEPTED) or the number of a refusal (enum ac3_refusal).
- * Each comment below lists the refusals in the order in which they are looked for; 7 to 9 are given as met in bit order.
- * Refused with 1 to 6 or 10, a call leaves every buffer as it was; with 7 to 9 it leaves the input and makes every output 0.
+ * They are looked for in the order 1, 2, 11, 10, 3, 4, 5, 6; then 7 to 9 are given as met in bit order. Each comment below
+ * lists those of its entry in this order. Refused with 1 to 6, 10 or 11, a call leaves every buffer as it was; with 7 to 9
+ * it leaves the input and makes every output 0.
  *
  * SLICES. A slice is a pointer, then its length in elements. A pointer is not NULL, also where the length is 0, is aligned
  * for its type, and what is written overlaps nothing else that is handed over. Result slices (exponent, groups, bits,
@@ -35,7 +36,7 @@ extern "C" {
 /* Bytes that have room for every body of so many channels: six blocks of 592 bits of exponents and 253 mantissas of 16. */
 #define AC3_LONGEST_BODY(channels) ((size_t)3480 * (size_t)(channels))
 
-/* Document 01, "When a call is turned back". */
+/* Document 01, "When a call is turned back"; 11 is from document 02, W1. */
 enum ac3_refusal {
     AC3_ACCEPTED = 0,
     AC3_STRUCTURE = 1,
@@ -47,7 +48,8 @@ enum ac3_refusal {
     AC3_PAST_INPUT = 7,
     AC3_BAD_GROUP = 8,
     AC3_NO_CODE = 9,
-    AC3_WRONG_LENGTH = 10
+    AC3_WRONG_LENGTH = 10,
+    AC3_OUT_OF_ORDER = 11
 };
 
 /* The cause of a refusal, in the words of that table. */
@@ -65,46 +67,48 @@ static inline const char *ac3_cause(uint32_t number)
     case AC3_BAD_GROUP: return "group above 124, or exponent outside 0..24";
     case AC3_NO_CODE: return "mantissa value no code has";
     case AC3_WRONG_LENGTH: return "buffer or slice of the wrong length";
+    case AC3_OUT_OF_ORDER: return "the records are not in ascending order of channel";
     default: return "no refusal's number";
     }
 }
 
 /* ---- the track sheet */
 
-/* Whether the n bytes are a track sheet.
- * Refuses 1, 2. */
+/* Whether the n bytes are a track sheet. Its records stand in ascending channel number, that of the LFE last, so equal
+ * settings are equal bytes.
+ * Refuses 1, 2, 11. */
 uint32_t ac3_check_sheet(const uint8_t *sheet, size_t n);
 
 /* ---- a frame under a sheet */
 
 /* The allocation of one channel (A/52 7.2.2): bap of each bin below the channel's end, 0 from it on.
  * channel: 0.., the LFE last. exp, bap: that channel's alone, each at least its end and at most 256 long; exponents 0..24.
- * Refuses 1, 2 (also a channel that the sheet has not), 10, 4. */
+ * Refuses 1, 2 (also a channel that the sheet has not), 11, 10, 4. */
 uint32_t ac3_compute_bap(const uint8_t *sheet, size_t n, uint32_t channel, const uint8_t *exp, size_t m,
     uint8_t *bap, size_t k);
 
 /* A frame from its coefficients.
  * coeffs: read. exps, bap, codes: written. body: the body at its start, zero bits to the byte; bytes after it stay.
  * counts: twelve, the exponent bits of the six blocks, then their mantissa bits. The body has their sum, as bytes rounded up.
- * Refuses 1, 2, 10, 3, 6. */
+ * Refuses 1, 2, 11, 10, 3, 6. */
 uint32_t ac3_encode_body(const uint8_t *sheet, size_t n, const float *coeffs, size_t a, uint8_t *exps, size_t b,
     uint8_t *bap, size_t c, uint16_t *codes, size_t d, uint8_t *body, size_t e, uint32_t *counts, size_t twelve);
 
 /* A body from exponents and codes; reuse blocks repeat the exponents of the block before.
  * exps, codes: read. body, counts: as in ac3_encode_body.
- * Refuses 1, 2, 10, 4, 5, 6. */
+ * Refuses 1, 2, 11, 10, 4, 5, 6. */
 uint32_t ac3_write_body(const uint8_t *sheet, size_t n, const uint8_t *exps, size_t b, const uint16_t *codes, size_t d,
     uint8_t *body, size_t e, uint32_t *counts, size_t twelve);
 
 /* Exponents, bap and codes from a body at the start of the input.
  * counts: as in ac3_encode_body. bits: one, the bits read, the zero bits to the byte not counted.
- * Refuses 1, 2, 10; then 7, 8, 9. */
+ * Refuses 1, 2, 11, 10; then 7, 8, 9. */
 uint32_t ac3_read_body(const uint8_t *sheet, size_t n, const uint8_t *input, size_t a, uint8_t *exps, size_t b,
     uint8_t *bap, size_t c, uint16_t *codes, size_t d, uint32_t *counts, size_t twelve, uint32_t *bits, size_t one);
 
 /* The mantissa bits of the six blocks of a frame, counted from its bap.
  * counts: six.
- * Refuses 1, 2, 10, 5 (a bap above 15 below an end). */
+ * Refuses 1, 2, 11, 10, 5 (a bap above 15 below an end). */
 uint32_t ac3_mantissa_bits_total_ends(const uint8_t *sheet, size_t n, const uint8_t *bap, size_t m,
     uint32_t *counts, size_t six);
 

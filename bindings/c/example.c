@@ -9,7 +9,8 @@
 enum { CHANNELS = 3, LFE = 2, LFE_END = 7, ENTRIES = AC3_ENTRIES(CHANNELS), ROOM = AC3_LONGEST_BODY(CHANNELS) };
 
 /* The length of what follows, version 1, 48 kHz, two channels and the LFE, sdcycod, fdcycod, sgaincod, dbpbcod, floorcod,
- * csnroffst; then a record for each channel: number, end, six strategies, fsnroffst, fgaincod, nseg and its segments. */
+ * csnroffst; then a record for each channel, in ascending number, the LFE's last: number, end, six strategies, fsnroffst,
+ * fgaincod, nseg and its segments. */
 static const uint8_t sheet[] = {
     0, 46, 1, 0, 2, 1, 2, 1, 1, 2, 7, 18,
     0, 181, 1, 0, 0, 2, 0, 0, 5, 4, 0,

@@ -1,7 +1,8 @@
 //! The proved AC-3 encoder core for Rust hosts: from transform coefficients to packed mantissas, and back.
 //!
 //! A [`Sheet`] (document 01's track sheet) says how a frame is coded: sample rate and allocation codes, and for each
-//! channel its end, its exponent strategies, its offsets and delta segments. Everything else is a call under a sheet:
+//! channel its end, its exponent strategies, its offsets and delta segments. Its records stand in ascending order of
+//! channel, so equal settings are equal bytes. Everything else is a call under a sheet:
 //!
 //! | to | call |
 //! |---|---|
@@ -38,9 +39,9 @@
 //!
 //! # Refusals
 //!
-//! Every call takes every input. What it cannot take it turns back with a [`Refusal`], whose number and words are
-//! document 01's; a call that is turned back with 1 to 6 or 10 leaves every buffer as it was, one with 7 to 9 (a
-//! reader) makes its outputs 0.
+//! Every call takes every input. What it cannot take it turns back with a [`Refusal`], whose number and words are those
+//! of document 01 and its table's later rows; a call that is turned back with 1 to 6, 10 or 11 leaves every buffer as it
+//! was, one with 7 to 9 (a reader) makes its outputs 0.
 //!
 //! # What is proved
 //!
@@ -60,6 +61,8 @@
 #[allow(unsafe_code)]
 #[rustfmt::skip] // a pointer and its length stay on one line
 mod ffi;
+#[cfg(test)]
+mod causes;
 mod frame;
 mod refusal;
 mod sheet;

@@ -1,12 +1,12 @@
-//! Why a call is turned back: document 01's numbers, each with its cause in words.
+//! Why a call is turned back: document 01's numbers and those that document 02 adds, each with its cause in words.
 
 use std::{error, fmt};
 
-/// Why a call was turned back (document 01, "When a call is turned back").
+/// Why a call was turned back (document 01, "When a call is turned back"; 11 is from document 02, W1).
 ///
-/// Causes are looked for in the table's order, 1, 2, 10, 3, 4, 5, 6; then 7 to 9 as they are met in bit order. Each is
-/// given only for its cause. 1 to 6 and 10 leave every buffer as it was; 7 to 9 leave the input and make every output
-/// 0.
+/// Causes are looked for in the table's order, 1, 2, 11, 10, 3, 4, 5, 6; then 7 to 9 as they are met in bit order. Each
+/// is given only for its cause. 1 to 6, 10 and 11 leave every buffer as it was; 7 to 9 leave the input and make every
+/// output 0.
 ///
 /// Later numbers join the table, so a `match` has a last arm for them.
 ///
@@ -42,6 +42,8 @@ pub enum Refusal {
     NoCode = 9,
     /// 10: a buffer or slice of the wrong length.
     WrongLength = 10,
+    /// 11: records of a sheet that do not stand in ascending order of channel.
+    OutOfOrder = 11,
 }
 
 impl Refusal {
@@ -57,9 +59,10 @@ impl Refusal {
         Refusal::BadGroup,
         Refusal::NoCode,
         Refusal::WrongLength,
+        Refusal::OutOfOrder,
     ];
 
-    /// Document 01's number of this refusal.
+    /// The number of this refusal.
     ///
     /// ```
     /// assert_eq!(ac3core::Refusal::WrongLength.number(), 10);
@@ -80,7 +83,7 @@ impl Refusal {
         Refusal::ALL.iter().copied().find(|refusal| refusal.number() == number)
     }
 
-    /// The cause, in the words of document 01's table.
+    /// The cause, in the words of the table.
     ///
     /// ```
     /// assert_eq!(ac3core::Refusal::PastInput.cause(), "a field runs past the input");
@@ -99,6 +102,7 @@ impl Refusal {
             Refusal::BadGroup => "group above 124, or exponent outside 0..24",
             Refusal::NoCode => "mantissa value no code has",
             Refusal::WrongLength => "buffer or slice of the wrong length",
+            Refusal::OutOfOrder => "the records are not in ascending order of channel",
         }
     }
 
@@ -147,7 +151,7 @@ mod tests {
 
     #[test]
     fn each_number_is_one_refusal() {
-        for number in 1..=10 {
+        for number in 1..=11 {
             assert_eq!(Refusal::from_number(number).map(Refusal::number), Some(number));
             assert_eq!(answer(number).map_err(Refusal::number), Err(number));
         }
@@ -155,8 +159,8 @@ mod tests {
     }
 
     #[test]
-    #[should_panic(expected = "the archive answered 11, which is no refusal's number")]
+    #[should_panic(expected = "the archive answered 12, which is no refusal's number")]
     fn an_unknown_number_is_told() {
-        let _ = answer(11);
+        let _ = answer(12);
     }
 }

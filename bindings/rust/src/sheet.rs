@@ -178,6 +178,9 @@ impl ChannelRecord {
 
 /// Lays a sheet out from its values, then checks it.
 ///
+/// The records are written in ascending order of channel, whatever the order of the calls: full-bandwidth channels as
+/// they were added, then the LFE. So no sheet of a builder is refused with [`Refusal::OutOfOrder`].
+///
 /// ```
 /// use ac3core::{ChannelRecord, Common, SheetBuilder};
 ///
@@ -203,13 +206,23 @@ impl SheetBuilder {
         SheetBuilder { common, ..SheetBuilder::default() }
     }
 
-    /// Adds the next full-bandwidth channel; the first is number 0.
+    /// Adds the next full-bandwidth channel; the first is number 0, also where the LFE was set before it.
     pub fn channel(mut self, record: ChannelRecord) -> SheetBuilder {
         self.full_bandwidth.push(record);
         self
     }
 
-    /// Sets the LFE, whose number comes after those of all full-bandwidth channels.
+    /// Sets the LFE, whose number comes after those of all full-bandwidth channels, also of those added later.
+    ///
+    /// ```
+    /// use ac3core::{ChannelRecord, Common, SheetBuilder};
+    ///
+    /// let (full, lfe) = (ChannelRecord::new(37), ChannelRecord::new(7));
+    /// let last = SheetBuilder::new(Common::default()).channel(full.clone()).lfe(lfe.clone()).check()?;
+    /// let first = SheetBuilder::new(Common::default()).lfe(lfe).channel(full).check()?;
+    /// assert_eq!(first.as_bytes(), last.as_bytes());
+    /// # Ok::<(), ac3core::Refusal>(())
+    /// ```
     pub fn lfe(mut self, record: ChannelRecord) -> SheetBuilder {
         self.lfe = Some(record);
         self
@@ -250,7 +263,10 @@ impl SheetBuilder {
 /// A track sheet that was accepted (document 01, "The track sheet").
 ///
 /// It is made only by [`Sheet::check`] and [`SheetBuilder::check`], so that no call that takes one refuses with
-/// [`Refusal::Structure`]. Two are equal where their bytes are.
+/// [`Refusal::Structure`] or [`Refusal::OutOfOrder`].
+///
+/// Equal settings are equal bytes: two sheets with the same [`common`](Sheet::common) part and the same
+/// [`records`](Sheet::records) have the same bytes. That is proved for the core.
 ///
 /// Coefficients, exponents, bap and codes of a frame are buffers of [`entries`](Sheet::entries) entries;
 /// [`part`](Sheet::part) and [`bins`](Sheet::bins) say where a channel's part of a block stands in them.
@@ -278,7 +294,7 @@ impl Sheet {
     ///
     /// # Errors
     ///
-    /// [`Refusal::Structure`] and [`Refusal::OutOfRange`], in this order.
+    /// [`Refusal::Structure`], [`Refusal::OutOfRange`] and [`Refusal::OutOfOrder`], in this order.
     ///
     /// ```
     /// use ac3core::{Refusal, Sheet};
@@ -289,6 +305,13 @@ impl Sheet {
     /// assert_eq!(Sheet::check(&bytes[..22]), Err(Refusal::Structure));
     /// bytes[3] = 3; // fscod
     /// assert_eq!(Sheet::check(&bytes), Err(Refusal::OutOfRange));
+    ///
+    /// // Two channels and their records, 0 and 1.
+    /// let head = [0, 0x20, 1, 0, 2, 0, 0, 0, 0, 0, 0, 0];
+    /// let record = |channel, end| [channel, end, 1, 0, 0, 0, 0, 0, 0, 0, 0];
+    /// let (zero, one) = (record(0, 37), record(1, 40));
+    /// assert_eq!(Sheet::check(&[&head[..], &zero, &one].concat())?.ends(), [37, 40]);
+    /// assert_eq!(Sheet::check(&[&head[..], &one, &zero].concat()), Err(Refusal::OutOfOrder));
     /// # Ok::<(), Refusal>(())
     /// ```
     pub fn check(bytes: &[u8]) -> Result<Sheet, Refusal> {
@@ -296,7 +319,7 @@ impl Sheet {
         Ok(Sheet::of_accepted(bytes))
     }
 
-    /// The values of accepted bytes: the records are whole and each channel has one.
+    /// The values of accepted bytes: the records are whole and each channel has one, in ascending order.
     fn of_accepted(bytes: &[u8]) -> Sheet {
         let common = Common {
             fscod: bytes[3],
@@ -307,16 +330,14 @@ impl Sheet {
             floorcod: bytes[10],
             csnroffst: bytes[11],
         };
-        let mut numbered = Vec::new();
+        let mut records = Vec::new();
         let mut rest = &bytes[HEAD_SIZE..];
         while !rest.is_empty() {
             let segments = rest[RECORD_SIZE - 1] as usize;
             let (record, after) = rest.split_at(RECORD_SIZE + 3 * segments);
-            numbered.push((record[0], ChannelRecord::of_accepted(record)));
+            records.push(ChannelRecord::of_accepted(record));
             rest = after;
         }
-        numbered.sort_by_key(|&(channel, _)| channel);
-        let records = numbered.into_iter().map(|(_, record)| record).collect();
         Sheet { bytes: bytes.to_vec(), common, records }
     }
 
@@ -330,7 +351,7 @@ impl Sheet {
         self.common
     }
 
-    /// The records by channel number, that of the LFE last.
+    /// The records as they stand: in ascending order of channel, that of the LFE last.
     pub fn records(&self) -> &[ChannelRecord] {
         &self.records
     }

@@ -1,13 +1,13 @@
-//! Every refusal through the safe API, each by a small input, and what it leaves: 1 to 6 and 10 everything, 7 to 9
-//! outputs of 0.
+//! Every refusal through the safe API, each by a small input, and what it leaves: 1 to 6, 10 and 11 everything, 7 to 9
+//! outputs of 0. src/causes.rs has the order of a sheet's causes on the entries behind it.
 mod support;
 
 use ac3core::{steps::*, Frame, Refusal, Sheet};
 use support::{example, loud_example, put_bits, Random, EXAMPLE, NOT_FINITE};
 use Refusal::*;
 
-/// The table of document 01: number, name, cause in words.
-const TABLE: [(u32, Refusal, &str); 10] = [
+/// The table of document 01 and what document 02 adds: number, name, cause in words.
+const TABLE: [(u32, Refusal, &str); 11] = [
     (1, Structure, "a sheet of fewer than 12 bytes, length not matching the bytes, version, or a record cut short"),
     (2, OutOfRange, "a value outside its range, channel twice or missing"),
     (3, NotFinite, "coefficient below end not finite"),
@@ -18,6 +18,7 @@ const TABLE: [(u32, Refusal, &str); 10] = [
     (8, BadGroup, "group above 124, or exponent outside 0..24"),
     (9, NoCode, "mantissa value no code has"),
     (10, WrongLength, "buffer or slice of the wrong length"),
+    (11, OutOfOrder, "the records are not in ascending order of channel"),
 ];
 
 #[test]
@@ -31,7 +32,7 @@ fn numbers_and_words() {
         let error: Box<dyn std::error::Error> = refusal.into();
         assert_eq!(error.to_string(), refusal.to_string());
     }
-    for number in [0, 11, u32::MAX] {
+    for number in [0, 12, u32::MAX] {
         assert_eq!(Refusal::from_number(number), None);
     }
 }
@@ -118,6 +119,28 @@ fn out_of_range() {
     assert_eq!(select_exp_strategies_per_end(&[], &[]), Err(OutOfRange));
     assert_eq!(select_exp_strategies_per_end(&[0; 1536], &[257]), Err(OutOfRange));
     assert_eq!(select_exp_strategies_per_end(&[0; 7 * 1536], &[37; 7]), Err(OutOfRange));
+}
+
+/// Two records that change places, then with a fault of structure or of range beside that.
+#[test]
+fn out_of_order() {
+    let head = [0, 0x20, 1, 0, 2, 0, 0, 0, 0, 0, 0, 0];
+    let [zero, one] = [0, 1].map(|channel| [channel, 37, 1, 0, 0, 0, 0, 0, 0, 0, 0]);
+    assert!(Sheet::check(&[&head[..], &zero, &one].concat()).is_ok());
+    let turned = [&head[..], &one, &zero].concat();
+    assert_eq!(Sheet::check(&turned), Err(OutOfOrder));
+    for (at, value, refusal) in [
+        (2, 0, Structure),   // version
+        (33, 1, Structure),  // a segment that is not there
+        (3, 3, OutOfRange),  // fscod
+        (4, 3, OutOfRange),  // a channel is missing
+        (23, 1, OutOfRange), // a channel is there twice
+        (32, 8, OutOfRange), // fgaincod of the last record
+    ] {
+        let mut bytes = turned.clone();
+        bytes[at] = value;
+        assert_eq!(Sheet::check(&bytes), Err(refusal), "byte {at}");
+    }
 }
 
 #[test]

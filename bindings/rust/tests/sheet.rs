@@ -2,7 +2,7 @@
 mod support;
 
 use ac3core::{ChannelRecord, Common, Refusal, Segment, Sheet, SheetBuilder, Strategy};
-use support::{example, Random, EXAMPLE};
+use support::{example, in_order, orders, Random, EXAMPLE};
 
 #[test]
 fn the_example_is_accepted() {
@@ -35,13 +35,13 @@ fn the_builder_lays_out_the_example() {
     assert_eq!(sheet, example());
 }
 
-/// The records of a sheet come in any order; they are told by channel number.
 #[test]
-fn records_in_another_order_are_told_by_number() {
+fn values_are_told_from_the_bytes() {
     let head = [0, 0x23, 1, 2, 1, 1, 3, 2, 1, 0, 5, 60];
-    let lfe = [1, 7, 1, 0, 1, 0, 0, 1, 9, 4, 0];
     let full = [0, 40, 3, 0, 2, 0, 0, 1, 15, 7, 1, 7, 2, 6];
-    let sheet = Sheet::check(&[&head[..], &lfe, &full].concat()).unwrap();
+    let lfe = [1, 7, 1, 0, 1, 0, 0, 1, 9, 4, 0];
+    let bytes = [&head[..], &full, &lfe].concat();
+    let sheet = Sheet::check(&bytes).unwrap();
     let common = Common { fscod: 2, sdcycod: 3, fdcycod: 2, sgaincod: 1, dbpbcod: 0, floorcod: 5, csnroffst: 60 };
     use Strategy::{Reuse, D15, D25, D45};
     let records = [
@@ -62,21 +62,81 @@ fn records_in_another_order_are_told_by_number() {
     assert_eq!((sheet.common(), sheet.records(), sheet.lfe()), (common, &records[..], Some(1)));
     let [full_record, lfe_record] = records;
     let built = SheetBuilder::new(common).channel(full_record).lfe(lfe_record).check().unwrap();
-    assert_eq!(built.as_bytes(), [&head[..], &full, &lfe].concat());
+    assert_eq!(built.as_bytes(), bytes);
 }
 
-/// What a builder was given is what the sheet tells, also after its bytes are checked anew.
+/// Every order of the records of sheets of two to six channels, with and without an LFE.
+#[test]
+fn only_the_ascending_order_is_accepted() {
+    let mut random = Random(5);
+    for (full_bandwidth, lfe) in (1..=5).flat_map(|n| [(n, false), (n, true)]).skip(1) {
+        let sheet = random.sheet_of(full_bandwidth, lfe);
+        let orders = orders(sheet.channels());
+        assert_eq!(orders.len(), (1..=sheet.channels()).product());
+        for order in orders {
+            let answer = Sheet::check(&in_order(&sheet, &order));
+            let want = if order.is_sorted() { Ok(sheet.clone()) } else { Err(Refusal::OutOfOrder) };
+            assert_eq!(answer, want, "{order:?}");
+        }
+    }
+}
+
+/// The settings of a sheet, laid out anew; the LFE is set before channel number `lfe_before`.
+fn laid_out_again(sheet: &Sheet, lfe_before: usize) -> Sheet {
+    let full_bandwidth = sheet.lfe().unwrap_or(sheet.channels());
+    let lfe = sheet.lfe().map(|channel| sheet.records()[channel].clone());
+    let mut builder = SheetBuilder::new(sheet.common());
+    for channel in 0..=full_bandwidth {
+        if let (Some(record), true) = (&lfe, channel == lfe_before) {
+            builder = builder.lfe(record.clone());
+        }
+        if channel < full_bandwidth {
+            builder = builder.channel(sheet.records()[channel].clone());
+        }
+    }
+    builder.check().expect("the builder lays out in order")
+}
+
+/// What a builder was given is what the sheet tells, also after its bytes are checked anew. Where the LFE comes among
+/// its calls makes no difference.
 #[test]
 fn random_sheets_are_told_as_built() {
     let mut random = Random(1);
     for _ in 0..500 {
         let sheet = random.sheet();
         assert_eq!(Sheet::check(sheet.as_bytes()).as_ref(), Ok(&sheet));
-        let mut again = SheetBuilder::new(sheet.common());
-        for (channel, record) in sheet.records().iter().cloned().enumerate() {
-            again = if Some(channel) == sheet.lfe() { again.lfe(record) } else { again.channel(record) };
+        for lfe_before in 0..=sheet.lfe().unwrap_or(0) {
+            assert_eq!(laid_out_again(&sheet, lfe_before), sheet);
         }
-        assert_eq!(again.check(), Ok(sheet));
+    }
+}
+
+/// Equal settings are equal bytes, and only those. Of each sheet: itself laid out anew, another, and all that are
+/// accepted with one byte changed by one.
+#[test]
+fn equal_settings_are_equal_bytes() {
+    let mut random = Random(6);
+    let settings = |sheet: &Sheet| (sheet.common(), sheet.records().to_vec());
+    let compare = |one: &Sheet, other: &Sheet| {
+        let equal = settings(one) == settings(other);
+        assert_eq!(one.as_bytes() == other.as_bytes(), equal);
+        assert_eq!(one == other, equal);
+        equal
+    };
+    for _ in 0..200 {
+        let sheet = random.sheet();
+        assert!(compare(&sheet, &laid_out_again(&sheet, sheet.lfe().unwrap_or(0))));
+        compare(&sheet, &random.sheet());
+        let mut accepted = 0;
+        for (at, step) in (0..sheet.as_bytes().len()).flat_map(|at| [(at, 1), (at, 255)]) {
+            let mut bytes = sheet.as_bytes().to_vec();
+            bytes[at] = bytes[at].wrapping_add(step);
+            if let Ok(near) = Sheet::check(&bytes) {
+                assert!(!compare(&sheet, &near), "byte {at}");
+                accepted += 1;
+            }
+        }
+        assert!(accepted > 0);
     }
 }
 

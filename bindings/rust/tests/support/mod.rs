@@ -30,6 +30,34 @@ pub fn put_bits(coeff: &mut f32, bits: u32) {
     assert_eq!(std::hint::black_box(coeff).to_bits(), bits);
 }
 
+/// The bytes of each record of an accepted sheet.
+pub fn records_of(sheet: &Sheet) -> Vec<&[u8]> {
+    let mut rest = &sheet.as_bytes()[12..];
+    let mut records = Vec::new();
+    while !rest.is_empty() {
+        let (record, after) = rest.split_at(11 + 3 * rest[10] as usize);
+        records.push(record);
+        rest = after;
+    }
+    records
+}
+
+/// The sheet's bytes with its records in this order.
+pub fn in_order(sheet: &Sheet, order: &[usize]) -> Vec<u8> {
+    let records = records_of(sheet);
+    let turned: Vec<&[u8]> = order.iter().map(|&channel| records[channel]).collect();
+    [&sheet.as_bytes()[..12], &turned.concat()].concat()
+}
+
+/// Every order of the numbers below n, the ascending one first.
+pub fn orders(n: usize) -> Vec<Vec<usize>> {
+    if n == 0 {
+        return vec![Vec::new()];
+    }
+    let put = |order: &[usize], at: usize| [&order[..at], &[n - 1], &order[at..]].concat();
+    orders(n - 1).iter().flat_map(|order| (0..n).rev().map(|at| put(order, at))).collect()
+}
+
 /// Numbers by splitmix64.
 pub struct Random(pub u64);
 
@@ -68,8 +96,14 @@ impl Random {
         }
     }
 
-    /// A sheet that is accepted.
+    /// A sheet that is accepted, of any layout.
     pub fn sheet(&mut self) -> Sheet {
+        let (full_bandwidth, lfe) = (1 + self.below(MAX_FBW as u64) as usize, self.below(2) == 1);
+        self.sheet_of(full_bandwidth, lfe)
+    }
+
+    /// A sheet that is accepted, of so many channels beside the LFE.
+    pub fn sheet_of(&mut self, full_bandwidth: usize, lfe: bool) -> Sheet {
         let common = Common {
             fscod: self.byte(2),
             sdcycod: self.byte(3),
@@ -80,10 +114,10 @@ impl Random {
             csnroffst: self.byte(63),
         };
         let mut builder = SheetBuilder::new(common);
-        for _ in 0..=self.below(MAX_FBW as u64) {
+        for _ in 0..full_bandwidth {
             builder = builder.channel(self.record());
         }
-        if self.below(2) == 1 {
+        if lfe {
             let (fsnroffst, fgaincod) = (self.byte(15), self.byte(7));
             let strategies = self.strategies(1);
             builder = builder.lfe(ChannelRecord { strategies, fsnroffst, fgaincod, ..ChannelRecord::new(7) });
