@@ -10,9 +10,9 @@ pub const FILL: u8 = 0xa5;
 pub const FILL_CODE: u16 = 0xa5a5;
 
 #[rustfmt::skip]
-pub const STEPS: [&str; 16] = [
-    "sheet", "extract", "preprocess", "quantise", "write_exponents", "read_exponents", "pick", "select", "allocate", "quantise_mantissa",
-    "write_mantissas", "read_mantissas", "count", "encode", "write_frame", "read_frame",
+pub const STEPS: [&str; 17] = [
+    "sheet", "extract", "preprocess", "quantise", "write_exponents", "read_exponents", "pick", "select", "allocate", "allocate_sheet",
+    "quantise_mantissa", "write_mantissas", "read_mantissas", "count", "encode", "write_frame", "read_frame",
 ];
 
 /// The inputs of a case by name.
@@ -88,6 +88,7 @@ fn call(step: &str, c: &Inputs) -> Option<Given> {
         "extract" | "preprocess" | "quantise" | "pick" | "select" => Some(call_shaping(step, c)),
         "write_exponents" | "read_exponents" => Some(call_exponents(step, c)),
         "allocate" => call_allocation(c),
+        "allocate_sheet" => Some(call_allocation_under(c.bytes("sheet"), c.number("channel") as u32, c)),
         "quantise_mantissa" | "write_mantissas" | "read_mantissas" | "count" => call_mantissas(step, c),
         _ => call_frame(step, c),
     }
@@ -141,9 +142,13 @@ fn call_exponents(step: &str, c: &Inputs) -> Given {
 
 fn call_allocation(c: &Inputs) -> Option<Given> {
     let (sheet, channel) = sheet_for(c.bytes("params"), c.bytes("segs"), c.number("end"))?;
+    Some(call_allocation_under(&sheet, channel, c))
+}
+
+fn call_allocation_under(sheet: &[u8], channel: u32, c: &Inputs) -> Given {
     let mut bap = vec![FILL; c.number("baplen")];
-    let k = entries::compute_bap(&sheet, channel, c.bytes("exp"), &mut bap);
-    Some((k, vec![("bap", F::U8(bap))]))
+    let k = entries::compute_bap(sheet, channel, c.bytes("exp"), &mut bap);
+    (k, vec![("bap", F::U8(bap))])
 }
 
 fn call_mantissas(step: &str, c: &Inputs) -> Option<Given> {

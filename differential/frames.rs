@@ -1,4 +1,5 @@
-//! Whole frames: from coefficients, from exponents and codes, read back, and damaged copies of the body read; and the long run over random ones.
+//! Whole frames: from coefficients, from exponents and codes, read back, and damaged copies of the body read; with their records in any order;
+//! and the long run over random ones.
 use crate::cases::{FILL, FILL_CODE};
 use crate::entries;
 use crate::spectra::{self, NOT_FINITE};
@@ -207,21 +208,65 @@ fn compare_free(tally: &mut Tally, g: &mut Rng, label: &str, s: &m::Sheet) {
     }
 }
 
-/// Frame number `i` of a seed, alike wherever a run begins: a random sheet with its records in any order, a spectrum, now and then a
-/// coefficient that is not finite.
+/// Every call that takes a sheet, under one whose records may stand in any order. `ordered` is the frame of the same sheet with its records in
+/// ascending order. The buffers have an entry less where they are to be short.
+pub fn compare_order(tally: &mut Tally, part: &str, label: &str, s: &m::Sheet, ordered: &Left, coeffs: &[f32], short: bool) {
+    let sheet = &s.to_bytes()[..];
+    let entries = coeffs.len() - short as usize;
+    let (here, there) = (entries::check_sheet(sheet), m::check_sheet(sheet).map_or_else(|k| k as u32, |_| 0));
+    tally.step(&format!("{part}: check_sheet")).case(there, here == there, || format!("{label}: {here}, {there}\n  sheet {sheet:02x?}"));
+    let (exps, bap, codes) = (&ordered.exps[..entries], &ordered.bap[..entries], &ordered.codes[..entries]);
+    let body = &ordered.body[..ordered.counts.iter().sum::<u32>().div_ceil(8) as usize];
+    let mut both = |call: &str, here: Left, there: Left| note(tally, &format!("{part}: {call}"), label, sheet, &here, &there);
+    both("encode_body", encoded_here(sheet, coeffs, entries, ROOM), encoded_there(sheet, coeffs, entries, ROOM));
+    both("write_body", written_here(sheet, exps, codes, ROOM), written_there(sheet, exps, codes, ROOM));
+    both("read_body", read_here(sheet, body, entries), read_there(sheet, body, entries));
+    compare_count(tally, part, label, sheet, bap);
+    for channel in 0..=s.c() {
+        let at = s.at(0, channel.min(s.c() - 1)); // those of the last one for a channel that the sheet has not
+        let length = if short { 0 } else { m::NC };
+        compare_allocation(tally, part, label, sheet, channel as u32, &ordered.exps[at..at + m::NC], length);
+    }
+}
+
+fn compare_count(tally: &mut Tally, part: &str, label: &str, sheet: &[u8], bap: &[u8]) {
+    let mut counts = [7u32; 6];
+    let here = (entries::mantissa_bits_total_ends(sheet, bap, &mut counts), counts);
+    let there = m::count_frame(sheet, bap).map_or_else(|k| (k as u32, [0; 6]), |v| (0, v));
+    tally
+        .step(&format!("{part}: mantissa_bits_total_ends"))
+        .case(there.0, here == there, || format!("{label}: {here:?}, {there:?}\n  sheet {sheet:02x?}"));
+}
+
+fn compare_allocation(tally: &mut Tally, part: &str, label: &str, sheet: &[u8], channel: u32, exps: &[u8], length: usize) {
+    let (mut here, mut there) = (vec![FILL; length], vec![FILL; length]);
+    let k = entries::compute_bap(sheet, channel, exps, &mut here);
+    let want = m::step_allocate_sheet(sheet, channel, exps, &mut there) as u32;
+    tally.step(&format!("{part}: compute_bap")).case(want, k == want && here == there, || {
+        format!("{label}, channel {channel}: {k}, {want}\n  {here:?}\n  {there:?}\n  sheet {sheet:02x?}")
+    });
+}
+
+/// Frame number `i` of a seed, alike wherever a run begins: a random sheet, a spectrum, now and then a coefficient that is not finite, and now
+/// and then the same with the records shuffled, which is 11 but where they come to stand in order.
 pub fn random_frame(tally: &mut Tally, seed: u64, i: u64) {
     let mut g = Rng::new(seed.wrapping_mul(0x9e37_79b9_7f4a_7c15).wrapping_add(i.wrapping_mul(0xd134_2543_de82_ef95)));
-    let ordered = gen::rand_sheet(&mut g, &Wish { n: None, lfe: None, max_end: 253 });
-    let mut s = ordered.clone();
-    gen::shuffle(&mut g, &mut s.records);
-    let (name, mut x) = spectra::any(&mut g, &ordered);
+    let s = gen::rand_sheet(&mut g, &Wish { n: None, lfe: None, max_end: 253 });
+    let (name, mut x) = spectra::any(&mut g, &s);
     if g.chance(16) {
         let at = g.below(x.len() as u64) as usize;
         x[at] = f32::from_bits(g.pick(&NOT_FINITE));
     }
     let label = format!("frame {i} of seed {seed}, {name}");
     compare(tally, &mut g, &label, &s.to_bytes(), &x, 1);
-    compare_free(tally, &mut g, &label, &ordered);
+    compare_free(tally, &mut g, &label, &s);
+    if g.chance(4) {
+        let ordered = encoded_there(&s.to_bytes(), &x, x.len(), ROOM);
+        let mut shuffled = s;
+        gen::shuffle(&mut g, &mut shuffled.records);
+        let short = g.chance(4);
+        compare_order(tally, "frame, shuffled", &label, &shuffled, &ordered, &x, short);
+    }
 }
 
 /// The long run: `count` random frames from number `first` on, with a line of progress each hundredth part or minute.

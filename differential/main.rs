@@ -17,6 +17,9 @@ const HELP: &str =
 differential --frames N [--seed S] [--first I]   N random frames, from number I (0) on
 differential --scan   extraction over every magnitude of an f32, and all bits of what is not finite";
 
+/// How much of document 02 the oracle's model has: it is document 01 with W1.
+const REVISION: u8 = 1;
+
 /// The names that `pick_strategy_for_block` of the Rust looks up; document 01 has them unset.
 const SWITCHES: [&str; 4] = ["AC3_EXPSTR_D45_THR", "AC3_EXPSTR_D25_THR", "AC3_DISABLE_D45", "AC3_FORCE_EXPSTR"];
 
@@ -53,6 +56,7 @@ fn everything(tally: &mut Tally, args: &[String]) {
 }
 
 fn main() {
+    rust_reference::revision::set(REVISION);
     SWITCHES.iter().for_each(|name| std::env::remove_var(name));
     let args: Vec<String> = std::env::args().skip(1).collect();
     let mut tally = Tally::default();

@@ -4,12 +4,15 @@ use std::collections::BTreeMap;
 /// Of each step the first few differences are printed whole.
 const SHOWN: u64 = 3;
 
+/// The greatest number that an entry answers.
+const LAST_ANSWER: usize = 11;
+
 /// The cases of one step.
 #[derive(Default)]
 pub struct Line {
     pub cases: u64,
     pub differences: u64,
-    answers: [u64; 11],
+    answers: [u64; LAST_ANSWER + 1],
 }
 
 #[derive(Default)]
@@ -21,7 +24,7 @@ impl Line {
     /// One case with the oracle's answer; `same` where nothing differed.
     pub fn case(&mut self, answer: u32, same: bool, show: impl FnOnce() -> String) {
         self.cases += 1;
-        self.answers[answer.min(10) as usize] += 1;
+        self.answers[answer as usize] += 1;
         if !same {
             self.differences += 1;
             if self.differences <= SHOWN {

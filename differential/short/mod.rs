@@ -3,6 +3,7 @@ mod exponents;
 mod fields;
 mod mantissas;
 mod not_finite;
+mod orders;
 mod sheets;
 mod slots;
 
@@ -13,6 +14,7 @@ pub fn run(tally: &mut Tally) {
     fields::run(tally);
     mantissas::run(tally);
     not_finite::run(tally);
+    orders::run(tally);
     sheets::run(tally);
     slots::run(tally);
     println!("short inputs: done");

@@ -30,8 +30,8 @@ fn with_length(mut sheet: Vec<u8>) -> Vec<u8> {
     sheet
 }
 
-/// Good sheets of each size: the example, and one of each channel layout with no, some and all segments.
-fn good_sheets() -> Vec<Vec<u8>> {
+/// Sheets of each size: the example, and one of each channel layout with no, some and all segments; each good, and with its records out of order.
+fn sheets_of_each_size() -> Vec<Vec<u8>> {
     let mut g = Rng::new(3);
     let mut v = vec![gen::example_sheet()];
     for (n, lfe, segments) in [(1, 1, 0), (2, 0, 2), (3, 1, 1), (5, 0, 0), (5, 1, 8)] {
@@ -39,7 +39,10 @@ fn good_sheets() -> Vec<Vec<u8>> {
         for q in s.records.iter_mut() {
             q.segs = if q.channel == n { vec![] } else { vec![[31, 15, 7]; segments] };
         }
-        gen::shuffle(&mut g, &mut s.records);
+        v.push(s.to_bytes());
+        while s.records.is_sorted_by_key(|q| q.channel) {
+            gen::shuffle(&mut g, &mut s.records);
+        }
         v.push(s.to_bytes());
     }
     v
@@ -47,23 +50,23 @@ fn good_sheets() -> Vec<Vec<u8>> {
 
 /// Each byte with each of its 256 values, each cut with and without its length mended, each byte doubled or taken out, every length field.
 fn sheets(tally: &mut Tally) {
-    for good in good_sheets() {
-        for at in 0..good.len() {
+    for sheet in sheets_of_each_size() {
+        for at in 0..sheet.len() {
             for value in 0..=255u8 {
-                let mut w = good.clone();
+                let mut w = sheet.clone();
                 w[at] = value;
                 check_one(tally, &w);
             }
-            let (mut less, mut more) = (good.clone(), good.clone());
+            let (mut less, mut more) = (sheet.clone(), sheet.clone());
             less.remove(at);
-            more.insert(at, good[at]);
-            for w in [good[..at].to_vec(), less, more] {
+            more.insert(at, sheet[at]);
+            for w in [sheet[..at].to_vec(), less, more] {
                 check_one(tally, &w);
                 check_one(tally, &with_length(w));
             }
         }
         for length in 0..=u16::MAX {
-            let mut w = good.clone();
+            let mut w = sheet.clone();
             w[..2].copy_from_slice(&length.to_be_bytes());
             check_one(tally, &w);
         }

@@ -1,9 +1,10 @@
-//! The small result slices of the entries: one of another length than the one named is 10, after 1 and 2, and every buffer stays. The Rust
+//! The small result slices of the entries: one of another length than the one named is 10, after 1, 2 and 11, and every buffer stays. The Rust
 //! has no such slices: what is expected is written here, from the list of entries in bindings/c/ac3core.h.
 use crate::cases::FILL;
 use crate::entries;
 use crate::tally::Tally;
-use rust_reference::gen;
+use rust_reference::gen::{self, Wish};
+use rust_reference::rng::Rng;
 
 /// Lengths that are none of those named.
 const WRONG: [usize; 3] = [0, 2, 13];
@@ -64,12 +65,14 @@ fn bit_counts(tally: &mut Tally, n: usize) {
     expect(tally, "read_mantissa_stream", 10, k, bits == vec![7; n] && codes == [7; 4]);
 }
 
-/// The calls under a sheet: a good one, one cut short, one with a value out of range.
+/// The calls under a sheet: a good one, one cut short, one with a value out of range, one with its records out of order.
 fn frames(tally: &mut Tally, n: usize) {
     let good = gen::example_sheet();
     let (cut, mut out_of_range) = (good[..22].to_vec(), good.clone());
     out_of_range[3] = 3;
-    for (sheet, want) in [(good, 10), (cut, 1), (out_of_range, 2)] {
+    let mut turned = gen::rand_sheet(&mut Rng::new(5), &Wish { n: Some(1), lfe: Some(1), max_end: 37 });
+    turned.records.reverse();
+    for (sheet, want) in [(good, 10), (cut, 1), (out_of_range, 2), (turned.to_bytes(), 11)] {
         let (mut exps, mut bap, mut codes, mut body) = ([FILL; 1536], [FILL; 1536], [7u16; 1536], [FILL; 40]);
         let (mut counts, mut bits, mut right, mut one) = (vec![7u32; n], vec![7u32; n], [7u32; 12], [7u32]);
         let mut answers = vec![
