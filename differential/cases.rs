@@ -1,5 +1,7 @@
-//! The oracle's cases, chosen and random: each entry is called on a case's inputs, and answer, counts and every buffer are compared whole.
+//! The oracle's cases, chosen and random: each entry is called on a case's inputs, and answer, counts and every buffer are compared whole. The
+//! program is run on its cases, and what it prints is compared.
 use crate::entries;
+use crate::program;
 use crate::tally::Tally;
 use rust_reference::cases::{Case, F};
 use rust_reference::gen;
@@ -10,9 +12,9 @@ pub const FILL: u8 = 0xa5;
 pub const FILL_CODE: u16 = 0xa5a5;
 
 #[rustfmt::skip]
-pub const STEPS: [&str; 17] = [
+pub const STEPS: [&str; 18] = [
     "sheet", "extract", "preprocess", "quantise", "write_exponents", "read_exponents", "pick", "select", "allocate", "allocate_sheet",
-    "quantise_mantissa", "write_mantissas", "read_mantissas", "count", "encode", "write_frame", "read_frame",
+    "quantise_mantissa", "write_mantissas", "read_mantissas", "count", "encode", "write_frame", "read_frame", "program",
 ];
 
 /// The inputs of a case by name.
@@ -81,7 +83,7 @@ pub fn sheet_for(p: &[u8], segs: &[u8], end: usize) -> Option<(Vec<u8>, u32)> {
     Some((s, lfe as u32))
 }
 
-/// Calls the entry of a step; none where the case can't be said through the entry.
+/// Calls the entry of a step, or runs the program; none where the case can't be said through the entry.
 fn call(step: &str, c: &Inputs) -> Option<Given> {
     match step {
         "sheet" => Some((entries::check_sheet(c.bytes("sheet")), vec![])),
@@ -90,6 +92,7 @@ fn call(step: &str, c: &Inputs) -> Option<Given> {
         "allocate" => call_allocation(c),
         "allocate_sheet" => Some(call_allocation_under(c.bytes("sheet"), c.number("channel") as u32, c)),
         "quantise_mantissa" | "write_mantissas" | "read_mantissas" | "count" => call_mantissas(step, c),
+        "program" => Some(run_program(c.bytes("stdin"))),
         _ => call_frame(step, c),
     }
 }
@@ -204,6 +207,11 @@ fn call_frame(step: &str, c: &Inputs) -> Option<Given> {
         }
         _ => panic!("no such step: {step}"),
     }
+}
+
+fn run_program(input: &[u8]) -> Given {
+    let printed = program::printed(input);
+    (program::refusal(&printed), vec![("stdout", F::U8(printed))])
 }
 
 /// Two outputs are the same. A code is 16 bits wide here and 32 in the oracle; counts are compared whole.

@@ -1,9 +1,10 @@
-//! Compares every entry of the archive with the Rust that this project was ported from: values, counts, refusals, the bytes written and
-//! those left. See scripts/differential for the ways to call it.
+//! Compares every entry of the archive, and the program, with the Rust that this project was ported from: values, counts, refusals, the bytes
+//! written and those left. See scripts/differential for the ways to call it.
 mod cases;
 mod entries;
 mod frames;
 mod layouts;
+mod program;
 mod scan;
 mod short;
 mod spectra;
