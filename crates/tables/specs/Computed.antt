@@ -5,10 +5,12 @@ use mathlib.Core.Bool.{Bool, true, _&&_}
 use mathlib.Core.List.{List, [], _∷_}
 use mathlib.Core.Logic.{⊎-elim}
 use Prim.Native.Nat.{ℕ, zero, suc, _+_, _-_, _≤_, _<_, zero-le}
-use native.Mathlib.Nat.{add-zero, add-suc, le-refl, le-trans, le-of-suc-le-suc, not-suc-le-zero, eq-or-lt-of-le}
+use native.Mathlib.Nat.{add-zero, add-suc, le-refl, le-trans, le-antisymm, le-of-suc-le-suc, not-suc-le-zero, eq-or-lt-of-le}
 use native.Mathlib.Omega.{arith}
 use lib.Dec.{T, leb, leb→le}
 use lib.Ieee.Fits.{and-l, and-r}
+use lib.ListN.{drop}
+use lib.Seq.{getD-drop}
 use Rattle.tables.specs.Entry.{entry, row}
 
 -- the test holds at every index below n
@@ -44,6 +46,13 @@ unfolding row
 row-entry-most m [] t f i = entry-most m [] tt i
 row-entry-most m (r ∷ rs) t zero i = entry-most m r (and-l (allAtMost m r) (allRowsAtMost m rs) t) i
 row-entry-most m (r ∷ rs) t (suc f) i = row-entry-most m rs (and-r (allAtMost m r) (allRowsAtMost m rs) t) f i
+
+-- every entry from n on is 0, and so is what is read past the end
+pub entry-none : (n : ℕ) (table : List ℕ) → T (allAtMost 0 (drop n table)) → (i : ℕ) → n ≤ i → entry table i ≡ 0
+unfolding entry
+entry-none n table t i h =
+    let e : n + (i - n) ≡ i = omega arith in
+    rw e at (rw getD-drop at (le-antisymm (entry-most 0 (drop n table) t (i - n)) zero-le))
 
 -- a test of neighbours, up to n, says it of any two indices up to n
 abbrev pub neverRises : ℕ → (ℕ → ℕ) → Bool

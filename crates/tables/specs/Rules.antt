@@ -4,23 +4,21 @@
 use mathlib.Core.Path.{_≡_, refl}
 use mathlib.Core.Bool.{Bool, _&&_}
 use mathlib.Core.List.{[], _∷_, map}
-use Prim.Native.Nat.{ℕ, zero, suc, _+_, _-_, _^_, _≤_, _<_, zero-le}
+use Prim.Native.Nat.{ℕ, zero, suc, _+_, _-_, _^_, _≤_, _<_}
 use native.Mathlib.Decide.{decLe}
-use native.Mathlib.Nat.{le-antisymm}
 use native.Mathlib.Numerals.{add-one}
 use native.Mathlib.Omega.{arith}
 use lib.Dec.{T, leb, ltb, eqb, leb→le, ltb→lt, eqb→eq}
 use lib.Ieee.Fits.{and-l, and-r}
 use lib.IntN.{pos, negℤ}
-use lib.ListN.{length, drop}
-use lib.Seq.{getD-drop}
+use lib.ListN.{length}
 use Rattle.tables.specs.Entry.{entry, row}
 use Rattle.tables.specs.Parameters.{slowdec, fastdec, slowgain, dbpbtab, floortab, fastgain, signed16}
 use Rattle.tables.specs.Bands.{bndtab, bndsz, masktab}
 use Rattle.tables.specs.Masking.{latab, hth}
 use Rattle.tables.specs.Quantizer.{baptab, quantizationBits, levelCounts, levelCount}
 use Rattle.tables.specs.EntryLaws.{entry-past}
-use Rattle.tables.specs.Computed.{allBelow, at-index, entry-most, row-entry-most, neverRises, neverFalls, never-rises, never-falls}
+use Rattle.tables.specs.Computed.{allBelow, at-index, entry-most, entry-none, row-entry-most, neverRises, neverFalls, never-rises, never-falls}
 
 -- the bin is one of the band's: BNDSZ of them from BNDTAB on
 pub record HoldsBin (band bin : ℕ) : Type 0 where
@@ -65,15 +63,9 @@ masktab-only bin band b = go (decLe 50 band)
         rw e at (eqb→eq (entry masktab (entry bndtab band + j)) band (at-index (entry bndsz band) (onlyBand band) each j (omega (arith, b .low, b .high))))
 
 -- entries 253 to 255 are 0, and so is what is read past them
-masktab-tail-zero : (j : ℕ) → entry (drop 253 masktab) j ≤ 0
-unfolding masktab
-masktab-tail-zero j = entry-most 0 (drop 253 masktab) tt j
-
 pub masktab-past : (bin : ℕ) → 253 ≤ bin → entry masktab bin ≡ 0
-unfolding entry
-masktab-past bin h =
-    let e : 253 + (bin - 253) ≡ bin = omega arith in
-    rw e at (rw getD-drop at (le-antisymm (masktab-tail-zero (bin - 253)) zero-le))
+unfolding masktab
+masktab-past = entry-none 253 masktab tt
 
 -- the bands lie side by side, and none is empty
 nextBand : ℕ → Bool
@@ -121,7 +113,11 @@ module _ (band : ℕ) (h : band < 28) where
 pub masktab-one : (bin : ℕ) → bin < 28 → entry masktab bin ≡ bin
 masktab-one bin h = masktab-only bin bin (record { low = omega (arith, bndtab-one bin h); high = omega (arith, bndtab-one bin h, bndsz-one bin h) })
 
--- the first band of more than one bin starts at bin 28, and the last of all ends behind bin 252
+-- the first band starts at bin 0, the first of more than one bin at bin 28, and the last of all ends behind bin 252
+pub bndtab-first : entry bndtab 0 ≡ 0
+unfolding entry bndtab
+bndtab-first = refl
+
 pub bndtab-joined : entry bndtab 28 ≡ 28
 unfolding entry bndtab
 bndtab-joined = refl
@@ -142,6 +138,11 @@ latab-never-rises i j h = go (decLe 256 j)
     go : Dec (256 ≤ j) → entry latab j ≤ entry latab i
     go (yes l) = omega (arith, entry-past latab j l)
     go (no l) = never-rises 255 (entry latab) latab-steps i j h (omega arith)
+
+-- from entry 210 on it is 0
+pub latab-past : (i : ℕ) → 210 ≤ i → entry latab i ≡ 0
+unfolding latab
+latab-past = entry-none 210 latab tt
 
 -- BAPTAB never falls
 baptab-steps : T (neverFalls 63 (entry baptab))

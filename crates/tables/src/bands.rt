@@ -1,8 +1,8 @@
-// The bands of A/52 7.2.3 (Table 7.12): where a band starts and how many bins it has.
+// The bands of A/52 7.2.3: where a band starts and how many bins it has (Table 7.12), and the band of a bin (Table 7.13).
 ghost use mathlib.Core.Path.{_≡_};
 ghost use Prim.Native.Nat.{_<_};
 ghost use Rattle.tables.specs.Entry.{entry};
-ghost use Rattle.tables.specs.Bands.{bndtab, bndsz};
+ghost use Rattle.tables.specs.Bands.{bndtab, bndsz, masktab};
 
 // Table 7.12, first column
 const BNDTAB: [u8; 50] = [
@@ -131,4 +131,19 @@ pub fn bndsz_table() -> [u8; 50]
     ensures { λ r. ⌜ r ≡ bndsz ⌝ }
 {
     BNDSZ
+}
+
+// Table 7.13 is not stored. The bands lie side by side, so a bin is in the first that ends behind it; bins 253 to 255 are in none and stand as 0.
+pub fn masktab(bin: usize) -> u8
+    requires { ⌜ bin < 256 ⌝ }
+    ensures { λ r. ⌜ r ≡ entry masktab bin ⌝ }
+{
+    let mut band = 0;
+    while band < 50 {
+        if bin < bndtab(band) as usize + bndsz(band) as usize {
+            return band as u8;
+        }
+        band += 1;
+    }
+    0
 }

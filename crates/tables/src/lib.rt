@@ -5,18 +5,17 @@
 pub mod bands;
 pub mod hearing;
 pub mod log_addition;
-pub mod masking;
 pub mod parameters;
 pub mod quantizer;
 
 pub use bands::bndsz;
 pub use bands::bndsz_table;
 pub use bands::bndtab;
+pub use bands::masktab;
 pub use hearing::hth;
 pub use hearing::hth_row;
 pub use log_addition::latab;
 pub use log_addition::latab_table;
-pub use masking::masktab;
 pub use parameters::dbpbtab;
 pub use parameters::fastdec;
 pub use parameters::fastgain;
