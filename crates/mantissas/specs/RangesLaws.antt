@@ -1,12 +1,14 @@
 -- What holds of each bap, by computing it for all sixteen.
-use mathlib.Core.Path.{refl}
-use mathlib.Core.List.{List, [], _∷_}
+use mathlib.Core.Bool.{cond}
+use mathlib.Core.Path.{_≡_}
 use Prim.Native.Nat.{ℕ, _^_, _≤_, _<_}
+use native.Mathlib.Omega.{arith}
 use lib.Dec.{leb, eqb, leb→le, eqb→eq}
+use lib.Pow.{pow-pos}
 use Rattle.tables.specs.Computed.{at-index}
 use Rattle.tables.specs.Entry.{entry}
 use Rattle.tables.specs.Quantizer.{quantizationBits, levelCount}
-use Rattle.mantissas.specs.Inner.{LevelTable}
+use Rattle.tables.specs.Rules.{levelCount-power}
 use Rattle.mantissas.specs.Ranges.{levels, groupSizes, size, width}
 
 pub record Row (b : ℕ) : Type 0 where
@@ -32,10 +34,12 @@ row b h =
       whole = leb→le _ _ (at-index 16 (λ (k : ℕ). leb (levels k ^ size k) 65536) tt b h);
     }
 
--- the levels in a row
-unfoldable pub levelList : List ℕ
-levelList = 1 ∷ 3 ∷ 5 ∷ 7 ∷ 11 ∷ 15 ∷ 32 ∷ 64 ∷ 128 ∷ 256 ∷ 512 ∷ 1024 ∷ 2048 ∷ 4096 ∷ 16384 ∷ 65536 ∷ []
+-- three codes of bap 1 share a field, three of bap 2 and two of bap 4; a code of any other bap has one of its own
+pub size-by : (b : ℕ) → b < 16 → size b ≡ cond (eqb b 1) 3 (cond (eqb b 2) 3 (cond (eqb b 4) 2 1))
+unfolding size groupSizes entry
+size-by b h = eqb→eq _ _ (at-index 16 (λ (k : ℕ). eqb (size k) (cond (eqb k 1) 3 (cond (eqb k 2) 3 (cond (eqb k 4) 2 1)))) tt b h)
 
-pub level-list : LevelTable levelList
-unfolding levelList levels levelCount entry
-level-list = (refl, λ b h. eqb→eq _ _ (at-index 16 (λ (k : ℕ). eqb (entry levelList k) (levels k)) tt b h))
+-- from bap 6 on every value of the field is a code
+pub levels-power : (b : ℕ) → 6 ≤ b → b < 16 → levels b ≡ 2 ^ width b
+unfolding levels width
+levels-power b l h = omega (arith, levelCount-power b l h, pow-pos (entry quantizationBits b))

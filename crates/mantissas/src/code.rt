@@ -7,62 +7,64 @@ ghost use Rattle.mantissas.specs.Ranges.{size, levels, width, groupSizes
 ghost use Rattle.mantissas.specs.Inner.{LevelTable};
 ghost use Rattle.mantissas.specs.Stream.{coded, bapsFit};
 
-// A/52 7.3.5: the codes that share a field.
-const GROUP_SIZES: [u8; 16] = [1, 3, 3, 1, 2, 1, 1, 1, 1, 1, 1, 1, 1, 1, 1, 1];
-
-// Table 7.18, and the one code 0 of bap 0.
-const LEVELS: [u32; 16] = [
-    1,
-    3,
-    5,
-    7,
-    11,
-    15,
-    32,
-    64,
-    128,
-    256,
-    512,
-    1024,
-    2048,
-    4096,
-    16384,
-    65536,
-];
-
 // Document 01: a stream's slices have at most six channels of 256 bins.
 const MOST_ENTRIES: usize = 1536;
 
-// How many codes share a field.
+// How many codes share a field (A/52 7.3.5).
 pub fn size(b: u8) -> u8
     requires { ⌜ b < 16 ⌝ }
     ensures { λ r. ⌜ r ≡ size b ⌝ }
     ensures { λ r. ⌜ (1 ≤ r) × (r ≤ 3) ⌝ }
 {
-    GROUP_SIZES[b as usize]
+    match b {
+        1 => 3,
+        2 => 3,
+        4 => 2,
+        _ => 1,
+    }
 }
 
-// The whole list, for a caller that reads many entries: it is then laid out once.
+// Those of all baps, for a caller that reads many: they are then laid out once.
 pub fn group_sizes() -> [u8; 16]
     ensures { λ r. ⌜ r ≡ groupSizes ⌝ }
 {
-    GROUP_SIZES
+    let mut table = [0u8; 16];
+    let mut b: u8 = 0;
+    while b < 16 {
+        table[b as usize] = size(b);
+        b += 1;
+    }
+    table
 }
 
-// How many values a code has.
+// How many values a code has (Table 7.18, and the one code 0 of bap 0): from bap 6 on as many as its field has.
 pub fn levels(b: u8) -> u32
     requires { ⌜ b < 16 ⌝ }
     ensures { λ r. ⌜ r ≡ levels b ⌝ }
     ensures { λ r. ⌜ (1 ≤ r) × (r ≤ 65536) ⌝ }
 {
-    LEVELS[b as usize]
+    match b {
+        0 => 1,
+        1 => 3,
+        2 => 5,
+        3 => 7,
+        4 => 11,
+        5 => 15,
+        _ => 1 << width(b),
+    }
 }
 
-// All of them, laid out once.
+// Those of all baps, laid out once.
 pub fn level_table() -> [u32; 16]
     ensures { λ r. ⌜ LevelTable r ⌝ }
 {
-    LEVELS
+    let mut table = [0u32; 16];
+    let mut b: u8 = 0;
+    while b < 16 {
+        table[b as usize] = levels(b);
+        b += 1;
+    }
+    table
 }
 
 // How many bits the field has.
@@ -80,10 +82,10 @@ pub fn values(b: u8, n: u8) -> u32
     ensures { λ r. ⌜ r ≡ levels b ^ n ⌝ }
     ensures { λ r. ⌜ (1 ≤ r) × (r ≤ 65536) ⌝ }
 {
-    let m = levels(b);
     if n == 0 {
         return 1;
     }
+    let m = levels(b);
     if n == 1 {
         return m;
     }
