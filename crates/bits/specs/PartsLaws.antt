@@ -105,7 +105,7 @@ piece-joined z f k i h l =
 
 -- ---- a part that is written
 
-module _ (l ys : List ℕ) (a k : ℕ) (h : a + k ≤ length l) (n : length ys ≡ k) where
+module _ {A : Type 0} (l ys : List A) (a k : ℕ) (h : a + k ≤ length l) (n : length ys ≡ k) where
   front-length : length (take a l ++ ys) ≡ a + k
   front-length = rw (length-append, length-take-le a l (omega arith), n)
 
@@ -137,47 +137,47 @@ pub within : (z i k : ℕ) → i < k → z * i + z ≤ z * k
 within z i k h = omega (arith, mul-le-mul-left z h, mul-add z i 1, mul-one z)
 
 -- the part that is lent is the piece
-pub part-is : (z i a k : ℕ) (l : List ℕ) → a ≡ z * i → k ≡ z → take k (drop a l) ≡ piece z i l
+pub part-is : {A : Type 0} (z i a k : ℕ) (l : List A) → a ≡ z * i → k ≡ z → take k (drop a l) ≡ piece z i l
 unfolding piece
 part-is z i a k l ea ek = rw (ea, ek)
 
-pub part-long : (z i a k : ℕ) (l : List ℕ) → a ≡ z * i → k ≡ z → z * i + z ≤ length l → length (take k (drop a l)) ≡ z
+pub part-long : {A : Type 0} (z i a k : ℕ) (l : List A) → a ≡ z * i → k ≡ z → z * i + z ≤ length l → length (take k (drop a l)) ≡ z
 part-long z i a k l ea ek h = rw (length-take, length-drop) (omega arith)
 
 -- filled up to piece i, then piece i
-pub fill-start : (z a : ℕ) (f : ℕ → List ℕ) (l : List ℕ) → a ≡ 0 → take a l ≡ joined 0 f
+pub fill-start : {A : Type 0} (z a : ℕ) (f : ℕ → List A) (l : List A) → a ≡ 0 → take a l ≡ joined 0 f
 unfolding joined
 fill-start z a f l e = rw e
 
-pub fill-more : (z i a k : ℕ) (f : ℕ → List ℕ) (l ys : List ℕ) → a ≡ z * i → k ≡ z → z * i + z ≤ length l → length ys ≡ z
+pub fill-more : {A : Type 0} (z i a k : ℕ) (f : ℕ → List A) (l ys : List A) → a ≡ z * i → k ≡ z → z * i + z ≤ length l → length ys ≡ z
     → take (z * i) l ≡ joined i f → ys ≡ f i → take (z * (i + 1)) (placed a k l ys) ≡ joined (i + 1) f
 fill-more z i a k f l ys ea ek h n e q =
     let m : z * (i + 1) ≡ a + k = omega (arith, mul-add z i 1, mul-one z) in
     rw (m, placed-front l ys a k (omega arith) (omega arith), joined-more i f, ea, e, q)
 
-pub fill-length : (z i a k : ℕ) (l ys : List ℕ) → a ≡ z * i → k ≡ z → z * i + z ≤ length l → length ys ≡ z → length (placed a k l ys) ≡ length l
+pub fill-length : {A : Type 0} (z i a k : ℕ) (l ys : List A) → a ≡ z * i → k ≡ z → z * i + z ≤ length l → length ys ≡ z → length (placed a k l ys) ≡ length l
 fill-length z i a k l ys ea ek h n = placed-length l ys a k (omega arith) (omega arith)
 
-pub fill-end : (z i k : ℕ) (f : ℕ → List ℕ) (l : List ℕ) → i ≡ k → length l ≡ z * k → take (z * i) l ≡ joined i f → l ≡ joined k f
+pub fill-end : {A : Type 0} (z i k : ℕ) (f : ℕ → List A) (l : List A) → i ≡ k → length l ≡ z * k → take (z * i) l ≡ joined i f → l ≡ joined k f
 fill-end z i k f l q h e =
     sym (take-length l) ∙ ap (λ (m : ℕ). take m l) (h ∙ ap (λ (m : ℕ). z * m) (sym q)) ∙ e ∙ ap (λ (m : ℕ). joined m f) q
 
 -- ---- parts before and behind the one that is written
 
 -- the front after one part more
-pub place-front : (z i a k : ℕ) (l ys : List ℕ) → a ≡ z * i → k ≡ z → z * i + z ≤ length l → length ys ≡ z
+pub place-front : {A : Type 0} (z i a k : ℕ) (l ys : List A) → a ≡ z * i → k ≡ z → z * i + z ≤ length l → length ys ≡ z
     → take (z * (i + 1)) (placed a k l ys) ≡ take (z * i) l ++ ys
 place-front z i a k l ys ea ek h n =
     let m : z * (i + 1) ≡ a + k = omega (arith, mul-add z i 1, mul-one z) in
     rw (m, placed-front l ys a k (omega arith) (omega arith), ea)
 
 -- a part that is still as it was
-pub part-old : (z i a k : ℕ) (l old : List ℕ) → a ≡ z * i → k ≡ z → drop (z * i) l ≡ drop (z * i) old → take k (drop a l) ≡ piece z i old
+pub part-old : {A : Type 0} (z i a k : ℕ) (l old : List A) → a ≡ z * i → k ≡ z → drop (z * i) l ≡ drop (z * i) old → take k (drop a l) ≡ piece z i old
 unfolding piece
 part-old z i a k l old ea ek e = rw (ea, e, ek)
 
 -- a part filled: what stands behind it is still as it was
-pub place-rest : (z i a k : ℕ) (l ys old : List ℕ) → a ≡ z * i → k ≡ z → z * i + z ≤ length l → length ys ≡ z → drop (z * i) l ≡ drop (z * i) old
+pub place-rest : {A : Type 0} (z i a k : ℕ) (l ys old : List A) → a ≡ z * i → k ≡ z → z * i + z ≤ length l → length ys ≡ z → drop (z * i) l ≡ drop (z * i) old
     → drop (z * (i + 1)) (placed a k l ys) ≡ drop (z * (i + 1)) old
 place-rest z i a k l ys old ea ek h n e =
     let m : z * (i + 1) ≡ a + k = omega (arith, mul-add z i 1, mul-one z) in

@@ -16,14 +16,14 @@ module _ (z n i : ℕ) (h : i < n) where
   all = omega arith
 
   -- what is lent
-  pub lent-is : (l : List ℕ) → take (z * i + z - z * i) (drop (z * i) l) ≡ piece z i l
+  pub lent-is : {A : Type 0} (l : List A) → take (z * i + z - z * i) (drop (z * i) l) ≡ piece z i l
   lent-is l = part-is z i (z * i) (z * i + z - z * i) l refl all
 
-  pub lent-long : (l : List ℕ) → length l ≡ z * n → length (take (z * i + z - z * i) (drop (z * i) l)) ≡ z
+  pub lent-long : {A : Type 0} (l : List A) → length l ≡ z * n → length (take (z * i + z - z * i) (drop (z * i) l)) ≡ z
   lent-long l long = part-long z i (z * i) (z * i + z - z * i) l refl all (omega (arith, there))
 
   -- what came back is ys: one part more is filled
-  module _ (l ys : List ℕ) (long : length l ≡ z * n) (kept : length ys ≡ length (take (z * i + z - z * i) (drop (z * i) l))) where
+  module _ {A : Type 0} (l ys : List A) (long : length l ≡ z * n) (kept : length ys ≡ length (take (z * i + z - z * i) (drop (z * i) l))) where
     room : z * i + z ≤ length l
     room = omega (arith, there)
 
@@ -33,13 +33,13 @@ module _ (z n i : ℕ) (h : i < n) where
     pub turn-length : length (placed (z * i) (z * i + z - z * i) l ys) ≡ length l
     turn-length = fill-length z i (z * i) (z * i + z - z * i) l ys refl all room filled
 
-    pub turn-more : (f : ℕ → List ℕ) → take (z * i) l ≡ joined i f → ys ≡ f i → take (z * (i + 1)) (placed (z * i) (z * i + z - z * i) l ys) ≡ joined (i + 1) f
+    pub turn-more : (f : ℕ → List A) → take (z * i) l ≡ joined i f → ys ≡ f i → take (z * (i + 1)) (placed (z * i) (z * i + z - z * i) l ys) ≡ joined (i + 1) f
     turn-more f e q = fill-more z i (z * i) (z * i + z - z * i) f l ys refl all room filled e q
 
     -- and the parts behind it are still as they were
-    pub turn-rest : (old : List ℕ) → drop (z * i) l ≡ drop (z * i) old → drop (z * (i + 1)) (placed (z * i) (z * i + z - z * i) l ys) ≡ drop (z * (i + 1)) old
+    pub turn-rest : (old : List A) → drop (z * i) l ≡ drop (z * i) old → drop (z * (i + 1)) (placed (z * i) (z * i + z - z * i) l ys) ≡ drop (z * (i + 1)) old
     turn-rest old e = place-rest z i (z * i) (z * i + z - z * i) l ys old refl all room filled e
 
   -- a part that is not filled yet
-  pub lent-old : (l old : List ℕ) → drop (z * i) l ≡ drop (z * i) old → take (z * i + z - z * i) (drop (z * i) l) ≡ piece z i old
+  pub lent-old : {A : Type 0} (l old : List A) → drop (z * i) l ≡ drop (z * i) old → take (z * i + z - z * i) (drop (z * i) l) ≡ piece z i old
   lent-old l old e = part-old z i (z * i) (z * i + z - z * i) l old refl all e

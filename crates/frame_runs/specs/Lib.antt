@@ -8,7 +8,6 @@ pub mod FiniteLaws
 pub mod RunsLaws
 pub mod LengthsLaws
 pub mod FillingLaws
-pub mod TwoPartsLaws
 pub mod FramedLaws
 pub mod CarriedLaws
 pub mod RunsLegal

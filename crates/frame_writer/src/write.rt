@@ -9,8 +9,6 @@ ghost use Rattle.frame.specs.Body.{bodyBits};
 ghost use Rattle.frame.specs.Legal.{expsLegal, LegalFrame};
 ghost use Rattle.frame.specs.Under.{Under};
 ghost use Rattle.frame_rows.specs.Rows.{bapsOf, cleaned};
-use crate::legal::codes_legal;
-use crate::legal::exps_legal;
 use bits::refusal::ACCEPTED;
 use bits::refusal::BAD_CODE;
 use bits::refusal::BAD_EXPONENT;
@@ -69,7 +67,7 @@ fn write_shaped(
     let n = 256 * track.channels * 6;
     let mut clean = frame_rows::no_codes();
     frame_rows::clean_codes(sheet, track, strategies, codes, &mut clean[0..n]);
-    if !codes_legal(sheet, track, strategies, bap, &clean[0..n]) {
+    if !frame_rows::codes_legal(sheet, track, strategies, bap, &clean[0..n]) {
         return frame::refused(BAD_CODE);
     }
     write_legal(sheet, track, strategies, exps, bap, &clean[0..n], out)
@@ -89,7 +87,7 @@ fn write_sized(
     ensures { λ r. ⌜ r ≡ writeAnswer (now (sheet .entry)) (now (exps .entry)) (now (codes .entry)) (length (now (out .entry))) ⌝ }
     ensures { λ r. ⌜ now (out .exit) ≡ bodyLeft r (bodyBits (now (sheet .entry)) (now (exps .entry)) (now (codes .entry))) (now (out .entry)) ⌝ }
 {
-    if !exps_legal(sheet, track, strategies, exps) {
+    if !frame_rows::exps_legal(sheet, track, strategies, exps) {
         return frame::refused(BAD_EXPONENT);
     }
     let n = 256 * track.channels * 6;

@@ -17,3 +17,11 @@ pub fn fill_codes(part: &mut [u16], v: u16)
         part[i] = v;
     }
 }
+
+pub fn fill_levels(part: &mut [f32], v: f32)
+    ensures { λ _. ⌜ now (part .exit) ≡ replicate (length (now (part .entry))) v ⌝ }
+{
+    for i in 0..part.len() {
+        part[i] = v;
+    }
+}

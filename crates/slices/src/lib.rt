@@ -7,3 +7,4 @@ pub use copying::copy_codes;
 pub use copying::copy_counts;
 pub use filling::fill;
 pub use filling::fill_codes;
+pub use filling::fill_levels;

@@ -5,7 +5,7 @@ use mathlib.Core.Path.{_≡_, sym, ap, _∙_}
 use native.Mathlib.Omega.{arith}
 use lib.ListN.{length, take, replicate, length-take}
 use borrow.Author.Needs.{needs}
-use Rattle.frame_runs.specs.TwoPartsLaws.{front-long, two-parts-long, two-parts}
+use Rattle.frame_rows.specs.TwoPartsLaws.{front-long, two-parts-long, two-parts}
 use Rattle.frame_encoder.proofs.codes.code_part.Statement.{statement}
 use Rattle.frame_encoder.proofs.codes.code_part.Tie as tie
 
@@ -30,14 +30,14 @@ same-length c =
     let s = c .before .before .before .before .before .before .before .before .before .before .before .before in
     let y = c .before .before .before .before .before .before .code-bins .last .1 .1 .1 .0 in
     let n : length y ≡ length (s .args .coeffs .now) = c .before .before .before .before .before .before .code-bins .kept .1 .1 .1 .0 ∙ front s in
-    two-parts-long _ (s .args .part .now) y (s .pre .1 .1) (s .pre .1 .0) n _ (c .before .before .fill-codes .ensures) ∙ sym (s .pre .1 .1)
+    two-parts-long _ (s .args .part .now) y (s .pre .1 .1) (s .pre .1 .0) n 0 _ (c .before .before .fill-codes .ensures) ∙ sym (s .pre .1 .1)
 
 returns : tie.Need-returns
 returns c =
     let s = c .before .before .before .before .before .before .before .before .before .before .before .before in
     let y = c .before .before .before .before .before .before .code-bins .last .1 .1 .1 .0 in
     let n : length y ≡ length (s .args .coeffs .now) = c .before .before .before .before .before .before .code-bins .kept .1 .1 .1 .0 ∙ front s in
-    two-parts _ (s .args .part .now) y (s .pre .1 .1) (s .pre .1 .0) n _ (c .before .before .fill-codes .ensures) ∙ ap (λ (l : List ℕ). l ++ replicate (256 - length (s .args .coeffs .now)) 0) (c .before .before .before .before .before .before .code-bins .ensures)
+    two-parts _ (s .args .part .now) y (s .pre .1 .1) (s .pre .1 .0) n 0 _ (c .before .before .fill-codes .ensures) ∙ ap (λ (l : List ℕ). l ++ replicate (256 - length (s .args .coeffs .now)) 0) (c .before .before .before .before .before .before .code-bins .ensures)
 
 pub code-part-spec : {M : Type 1} → statement M
 code-part-spec =

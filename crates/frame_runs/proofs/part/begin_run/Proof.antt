@@ -7,7 +7,7 @@ use borrow.Author.Needs.{needs}
 use Rattle.frame.specs.Under.{held-channels, held-end, channel-known}
 use Rattle.frame_rows.specs.RowsLaws.{held-most}
 use Rattle.frame_runs.specs.Runs.{runPart}
-use Rattle.frame_runs.specs.TwoPartsLaws.{front-long, two-parts-long, two-parts}
+use Rattle.frame_rows.specs.TwoPartsLaws.{front-long, two-parts-long, two-parts}
 use Rattle.frame_runs.proofs.part.begin_run.Statement.{statement}
 use Rattle.frame_runs.proofs.part.begin_run.Tie as tie
 
@@ -47,7 +47,7 @@ same-length c =
     let s = c .before .before .before .before .before .before .before .before .before .before .before .before in
     let y = c .before .before .before .before .before .before .run-exponents .last .1 .1 .1 .1 .1 .1 .1 .0 in
     let n : length y ≡ end s = c .before .before .before .before .before .before .run-exponents .kept .1 .1 .1 .1 .1 .1 .1 .0 ∙ front s in
-    two-parts-long (end s) (s .args .part .now) y (s .pre .1 .1 .2) (held s) n _ (c .before .before .fill .ensures) ∙ sym (s .pre .1 .1 .2)
+    two-parts-long (end s) (s .args .part .now) y (s .pre .1 .1 .2) (held s) n 0 _ (c .before .before .fill .ensures) ∙ sym (s .pre .1 .1 .2)
 
 returns : tie.Need-returns
 unfolding runPart
@@ -55,7 +55,7 @@ returns c =
     let s = c .before .before .before .before .before .before .before .before .before .before .before .before in
     let y = c .before .before .before .before .before .before .run-exponents .last .1 .1 .1 .1 .1 .1 .1 .0 in
     let n : length y ≡ end s = c .before .before .before .before .before .before .run-exponents .kept .1 .1 .1 .1 .1 .1 .1 .0 ∙ front s in
-    two-parts (end s) (s .args .part .now) y (s .pre .1 .1 .2) (held s) n _ (c .before .before .fill .ensures) ∙ rw (c .before .before .before .before .before .before .run-exponents .ensures, held-end (s .pre .0) (s .args .c))
+    two-parts (end s) (s .args .part .now) y (s .pre .1 .1 .2) (held s) n 0 _ (c .before .before .fill .ensures) ∙ rw (c .before .before .before .before .before .before .run-exponents .ensures, held-end (s .pre .0) (s .args .c))
 
 pub begin-run-spec : {M : Type 1} → statement M
 begin-run-spec =

@@ -10,7 +10,7 @@ use Rattle.frame_rows.specs.Rows.{cleaned}
 use Rattle.frame_rows.specs.RowsLaws.{length-noBuffer, front-lent, front-length, front-room, front-filled, held-most}
 use Rattle.frame_rows.specs.CleanLaws.{cleaned-again, cleaned-bits, cleaned-legal}
 use Rattle.frame_writer.specs.AnswersLaws.{under-sized, write-bad-codes, write-cleaned}
-use Rattle.frame_writer.specs.TestsLaws.{rows-coded}
+use Rattle.frame_rows.specs.TestsLaws.{rows-coded}
 use Rattle.frame_writer.proofs.write.write_shaped.Statement.{statement}
 use Rattle.frame_writer.proofs.write.write_shaped.Tie as tie
 

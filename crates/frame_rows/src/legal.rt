@@ -4,7 +4,7 @@ ghost use Prim.Native.Nat.{_*_, _-_, _<_, _≤_};
 ghost use lib.ListN.{length};
 ghost use Rattle.frame.specs.Legal.{alike, expsLegal, partLegal, rowLegal};
 ghost use Rattle.frame.specs.Under.{Under, KnownSet};
-ghost use Rattle.frame_writer.specs.Tests.{rowsCoded};
+ghost use Rattle.frame_rows.specs.Tests.{rowsCoded};
 use frame::Track;
 use sheet::BlockSet;
 use sheet::ExponentSet;
@@ -68,12 +68,7 @@ fn block_before(b: usize) -> usize
 }
 
 // Cause 4: the exponents of all six blocks.
-pub(crate) fn exps_legal(
-    sheet: &[u8],
-    track: Track,
-    strategies: [[BlockSet; 6]; 6],
-    exps: &[u8],
-) -> bool
+pub fn exps_legal(sheet: &[u8], track: Track, strategies: [[BlockSet; 6]; 6], exps: &[u8]) -> bool
     requires { ⌜ Under (now sheet) track strategies ⌝ }
     requires { ⌜ length (now exps) ≡ 256 * track .channels * 6 ⌝ }
     ensures { λ r. ⌜ r ≡ expsLegal (now (sheet .entry)) (now (exps .entry)) ⌝ }
@@ -91,7 +86,7 @@ pub(crate) fn exps_legal(
 }
 
 // Cause 5: the codes of all six blocks under their bap; from each end on they are 0.
-pub(crate) fn codes_legal(
+pub fn codes_legal(
     sheet: &[u8],
     track: Track,
     strategies: [[BlockSet; 6]; 6],

@@ -8,11 +8,11 @@ use borrow.Author.Needs.{needs}
 use Rattle.mantissas.specs.Stream.{coded}
 use Rattle.sheet.specs.Ranges.{allBelow}
 use Rattle.frame.specs.Layout.{rowOf}
 use Rattle.frame_rows.specs.RowsLaws.{row-lent, row-inside, held-most}
 use Rattle.frame_rows.specs.Walks.{lent-long}
-use Rattle.frame_writer.specs.Tests.{rowsCoded}
-use Rattle.frame_writer.proofs.legal.codes_legal.Statement.{statement}
-use Rattle.frame_writer.proofs.legal.codes_legal.Tie as tie
+use Rattle.frame_rows.specs.Tests.{rowsCoded}
+use Rattle.frame_rows.proofs.legal.codes_legal.Statement.{statement}
+use Rattle.frame_rows.proofs.legal.codes_legal.Tie as tie
 
 abbrev Inv-loop : tie.InvT-loop
 Inv-loop sheet bap codes n all₀ b₀ all b = (b ≤ 6) × (all ≡ allBelow b (λ j. coded (rowOf sheet j bap) (rowOf sheet j codes)))

@@ -10,10 +10,10 @@ use Rattle.sheet.specs.Ranges.{allBelow}
 use Rattle.frame.specs.Layout.{channels, endAt, setAt}
 use Rattle.frame.specs.Legal.{partLegal, rowLegal}
 use Rattle.frame.specs.Under.{held-channels, held-end, held-set, held-channel, held-known}
 use Rattle.frame_rows.specs.RowsLaws.{part-inside}
 use Rattle.frame_rows.specs.Walks.{lent-is, lent-long}
-use Rattle.frame_writer.proofs.legal.row_legal.Statement.{statement}
-use Rattle.frame_writer.proofs.legal.row_legal.Tie as tie
+use Rattle.frame_rows.proofs.legal.row_legal.Statement.{statement}
+use Rattle.frame_rows.proofs.legal.row_legal.Tie as tie
 
 abbrev Inv-loop : tie.InvT-loop
 Inv-loop sheet strategies b old row track all₀ c₀ c-end all c = (c ≤ track .channels) × (all ≡ allBelow c (λ j. partLegal (setAt sheet b j) (endAt sheet j) (piece 256 j old) (piece 256 j row)))

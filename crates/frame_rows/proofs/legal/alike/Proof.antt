@@ -4,10 +4,10 @@ use Prim.Native.Nat.{_-_, _≤_}
 use native.Mathlib.Omega.{arith}
 use lib.ListN.{length}
 use Rattle.frame.specs.Legal.{alike}
-use Rattle.frame_writer.specs.Tests.{alikeFrom}
-use Rattle.frame_writer.specs.TestsLaws.{alike-start, alike-next, alike-differs, alike-end}
-use Rattle.frame_writer.proofs.legal.alike.Statement.{statement}
-use Rattle.frame_writer.proofs.legal.alike.Tie as tie
+use Rattle.frame_rows.specs.Tests.{alikeFrom}
+use Rattle.frame_rows.specs.TestsLaws.{alike-start, alike-next, alike-differs, alike-end}
+use Rattle.frame_rows.proofs.legal.alike.Statement.{statement}
+use Rattle.frame_rows.proofs.legal.alike.Tie as tie
 
 abbrev Inv-loop : tie.InvT-loop
 Inv-loop x y i₀ i = (alikeFrom i x y ≡ alike x y) × (i ≤ length x)

@@ -21,11 +21,11 @@ use Rattle.frame.specs.Layout.{channels, endAt, setAt, rowOf}
 use Rattle.frame.specs.Legal.{alike, partLegal, rowLegal, codesLegal}
 use Rattle.frame.specs.Reader.{earlier}
 use Rattle.frame.specs.Under.{channel-known}
 use Rattle.frame_rows.specs.CleanLaws.{all-below-same}
 use Rattle.frame_rows.specs.LegalLaws.{earlier-taken}
 use Rattle.frame_rows.specs.Rows.{bapsOf, cleaned}
 use Rattle.frame_rows.specs.RowsLaws.{row-baps, row-cleaned}
-use Rattle.frame_writer.specs.Tests.{rowsCoded, alikeFrom}
+use Rattle.frame_rows.specs.Tests.{rowsCoded, alikeFrom}
 
 -- ---- codes
 

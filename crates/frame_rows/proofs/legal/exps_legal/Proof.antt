@@ -10,11 +10,11 @@ use Rattle.frame.specs.Layout.{rowOf}
 use Rattle.frame.specs.Legal.{rowLegal, expsLegal}
 use Rattle.frame.specs.Reader.{earlier}
 use Rattle.frame.specs.Under.{held-channels}
 use Rattle.frame_rows.specs.RowsLaws.{row-lent, row-inside, held-most}
 use Rattle.frame_rows.specs.Walks.{lent-long}
-use Rattle.frame_writer.specs.TestsLaws.{row-after}
-use Rattle.frame_writer.proofs.legal.exps_legal.Statement.{statement}
-use Rattle.frame_writer.proofs.legal.exps_legal.Tie as tie
+use Rattle.frame_rows.specs.TestsLaws.{row-after}
+use Rattle.frame_rows.proofs.legal.exps_legal.Statement.{statement}
+use Rattle.frame_rows.proofs.legal.exps_legal.Tie as tie
 
 abbrev Inv-loop : tie.InvT-loop
 Inv-loop sheet track strategies exps n all₀ b₀ all b = (b ≤ 6) × (all ≡ allBelow b (λ j. rowLegal sheet j (earlier sheet exps j) (rowOf sheet j exps)))

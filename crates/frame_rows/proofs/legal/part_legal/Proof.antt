@@ -5,9 +5,9 @@ use native.Mathlib.Omega.{arith}
 use lib.ListN.{length-take}
 use borrow.Author.Needs.{needs}
 use Rattle.sheet.specs.declared.record.ExponentSet.the-variants.{New}
-use Rattle.frame_writer.specs.TestsLaws.{part-reuse, part-new, span-least}
-use Rattle.frame_writer.proofs.legal.part_legal.Statement.{statement}
-use Rattle.frame_writer.proofs.legal.part_legal.Tie as tie
+use Rattle.frame_rows.specs.TestsLaws.{part-reuse, part-new, span-least}
+use Rattle.frame_rows.proofs.legal.part_legal.Statement.{statement}
+use Rattle.frame_rows.proofs.legal.part_legal.Tie as tie
 
 alike-requires : tie.Need-alike-requires
 alike-requires c κs = rw (length-take, length-take) (omega arith)
