@@ -16,7 +16,7 @@ pub fn power(k: u32) -> u32
 }
 
 // 2^k as an f32, which has it exactly.
-fn power_f32(k: u32) -> f32
+pub fn power_f32(k: u32) -> f32
     requires { ⌜ k ≤ 24 ⌝ }
     ensures { λ r. ⌜ r ≡ ofInt binary32 (pos (2 ^ k)) ⌝ }
 {
