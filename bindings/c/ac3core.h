@@ -8,15 +8,15 @@
  *
  * SLICES. A slice is a pointer, then its length in elements. A pointer is not NULL, also where the length is 0, is aligned
  * for its type, and what is written overlaps nothing else that is handed over. Result slices (exponent, groups, bits,
- * strategy, strategies, code, counts) have exactly the length that is named, else 10; on every refusal one of the right
- * length holds 0.
+ * strategy, strategies, code, counts, and has_level and level of one bin) have exactly the length that is named, else 10;
+ * on every refusal one of the right length holds 0.
  *
- * FRAMES. C is the number of channels, the LFE counted. Coefficients, exponents, bap and codes of a frame have
+ * FRAMES. C is the number of channels, the LFE counted. Coefficients, exponents, bap, codes and levels of a frame have
  * AC3_ENTRIES(C) entries; the 256 of a channel in a block start at AC3_PART(C, block, channel). Entries from the
  * channel's end on are ignored when read and written as 0.
  *
  * FLOATS. A coefficient may be any float: an infinity and a NaN, whatever its bits, are refused with 3; from a channel's end
- * on they are ignored.
+ * on they are ignored. A level is at most 1 in magnitude and never -0.
  *
  * THREADS. Nothing is kept between calls. */
 #ifndef AC3CORE_H
@@ -106,6 +106,13 @@ uint32_t ac3_write_body(const uint8_t *sheet, size_t n, const uint8_t *exps, siz
 uint32_t ac3_read_body(const uint8_t *sheet, size_t n, const uint8_t *input, size_t a, uint8_t *exps, size_t b,
     uint8_t *bap, size_t c, uint16_t *codes, size_t d, uint32_t *counts, size_t twelve, uint32_t *bits, size_t one);
 
+/* The listening copy of exponents and codes, as ac3_write_body takes them: each bin has a level or, where its bap is 0, is
+ * silent; a player puts dither there. The bap is the allocation of the exponents.
+ * exps, codes: read. has_level, levels: written, 1 and the level of ac3_reconstruct_mantissa, or 0 and 0 where silent.
+ * Refuses 1, 2, 11, 10, 4, 5. */
+uint32_t ac3_reconstruct_body(const uint8_t *sheet, size_t n, const uint8_t *exps, size_t b,
+    const uint16_t *codes, size_t d, uint8_t *has_level, size_t h, float *levels, size_t l);
+
 /* The mantissa bits of the six blocks of a frame, counted from its bap.
  * counts: six.
  * Refuses 1, 2, 11, 10, 5 (a bap above 15 below an end). */
@@ -161,6 +168,13 @@ uint32_t ac3_select_exp_strategies_per_end(const uint8_t *exps, size_t n, const 
  * code: one.
  * Refuses 10, 3, 4, 5. */
 uint32_t ac3_quantise_mantissa(float coeff, uint32_t exp, uint32_t bap, uint16_t *code, size_t one);
+
+/* The level of a bin at an exponent 0..24, a bap 0..15 and a code that its bap has; bap 0 is silent. It is 2^-exponent times
+ * the f32 level of the code (bap 1..5), or the code as a signed number of its width over 2^(width-1) (bap 6..15).
+ * has_level: one, 1, or 0 where silent. level: one, 0 where silent; else ac3_quantise_mantissa of it gives the code back.
+ * Refuses 10, 4, 5. */
+uint32_t ac3_reconstruct_mantissa(uint32_t exponent, uint32_t bap, uint32_t code, uint8_t *has_level, size_t one,
+    float *level, size_t one_);
 
 /* Writes a stream of mantissas at the start of out, zero bits to the byte; bytes after it stay.
  * bits: one, the bits of the stream.

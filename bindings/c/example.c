@@ -1,5 +1,6 @@
-/* One frame from its coefficients to the body and back, in C99: two channels and an LFE, a chord over quiet noise, as in
- * examples/chord. scripts/run-examples runs this program and bindings/rust/examples/encode_frame.rs, which prints the same. */
+/* One frame from its coefficients to the body and back, and its listening copy beside the coefficients, in C99: two channels
+ * and an LFE, a chord over quiet noise, as in examples/chord. scripts/run-examples runs this program and
+ * bindings/rust/examples/encode_frame.rs, which prints the same. */
 #include "ac3core.h"
 
 #include <stdio.h>
@@ -28,6 +29,10 @@ static uint32_t counts[12];
 static uint8_t exps_read[ENTRIES], bap_read[ENTRIES], body_again[ROOM];
 static uint16_t codes_read[ENTRIES];
 static uint32_t counts_read[12];
+
+/* Its listening copy. */
+static uint8_t has_level[ENTRIES];
+static float levels[ENTRIES];
 
 /* Ends the program where a call that must do its work is refused. */
 static void must(uint32_t number)
@@ -85,6 +90,23 @@ static uint32_t read_back(size_t size, uint32_t *bits)
                          counts_read, 12, bits, 1);
 }
 
+/* The listening copy of what was read. A bin without a level is silent. */
+static void listening_copy(void)
+{
+    must(ac3_reconstruct_body(sheet, sizeof sheet, exps_read, ENTRIES, codes_read, ENTRIES, has_level, ENTRIES, levels, ENTRIES));
+    int with_level = 0, bins = AC3_BLOCKS_PER_FRAME * (ends[0] + ends[1] + ends[2]);
+    double largest = 0.0;
+    for (int i = 0; i < ENTRIES; i++) {
+        if (has_level[i]) {
+            double difference = (double)coeffs[i] - (double)levels[i];
+            double size = difference < 0.0 ? -difference : difference;
+            largest = size > largest ? size : largest;
+            with_level++;
+        }
+    }
+    printf("listened to: %d of %d bins have a level, the largest difference is %.9f\n", with_level, bins, largest);
+}
+
 static void tell(const char *what, uint32_t number)
 {
     printf("%s: refused %u: %s\n", what, (unsigned)number, ac3_cause(number));
@@ -126,6 +148,8 @@ int main(void)
     must(ac3_write_body(sheet, sizeof sheet, exps_read, ENTRIES, codes_read, ENTRIES, body_again, ROOM, counts_read, 12));
     hold(memcmp(body, body_again, size) == 0, "the same body");
     printf("written again: the same %u bytes\n", (unsigned)size);
+
+    listening_copy();
 
     tell("a byte less room", encode(size - 1));
     hold(memcmp(body, body_again, size) == 0, "a refused call leaves the body");

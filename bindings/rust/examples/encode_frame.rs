@@ -1,63 +1,16 @@
-//! One frame from its coefficients to the body and back: two channels and an LFE, a chord over quiet noise, as in
-//! examples/chord.
+//! One frame from its coefficients to the body and back, and its listening copy beside the coefficients.
 //!
 //! `scripts/run-examples` runs this program and bindings/c/example.c, which prints the same.
 
-use ac3core::{ChannelRecord, Common, Refusal, Segment, Sheet, SheetBuilder, Strategy::*, BLOCKS_PER_FRAME};
+mod chord;
 
-/// 48 kHz; the second channel has a delta segment of its own.
-fn sheet() -> Result<Sheet, Refusal> {
-    let common = Common { fscod: 0, sdcycod: 2, fdcycod: 1, sgaincod: 1, dbpbcod: 2, floorcod: 7, csnroffst: 18 };
-    let left = ChannelRecord {
-        strategies: [D15, Reuse, Reuse, D25, Reuse, Reuse],
-        fsnroffst: 5,
-        fgaincod: 4,
-        ..ChannelRecord::new(181)
-    };
-    let right = ChannelRecord {
-        strategies: [D25, Reuse, D45, Reuse, D15, Reuse],
-        segments: vec![Segment { offst: 10, len: 4, ba: 5 }],
-        ..left.clone()
-    };
-    let lfe = ChannelRecord { fsnroffst: 8, fgaincod: 4, ..ChannelRecord::new(7) };
-    SheetBuilder::new(common).channel(left).channel(right).lfe(lfe).check()
-}
-
-/// Whole numbers -32768..32767, by a linear congruence: the same everywhere.
-struct Noise(u32);
-
-impl Noise {
-    fn next(&mut self) -> f64 {
-        self.0 = self.0.wrapping_mul(1664525).wrapping_add(1013904223);
-        f64::from(self.0 >> 16) - 32768.0
-    }
-}
-
-/// Four tones that fall off to both sides, over a quiet floor.
-fn chord(sheet: &Sheet) -> Vec<f32> {
-    let mut noise = Noise(2026);
-    let mut coeffs = vec![0.0; sheet.entries()];
-    for block in 0..BLOCKS_PER_FRAME {
-        for (channel, end) in sheet.ends().into_iter().enumerate() {
-            let part = &mut coeffs[sheet.part(block, channel)];
-            for (i, coeff) in part.iter_mut().enumerate() {
-                let mut x = noise.next() / f64::from(1 << 26);
-                for tone in [3usize, 11, 24, 60] {
-                    let fall = (3 * i.abs_diff(tone) + channel).min(20);
-                    x += noise.next() / f64::from(1 << 16) / f64::from(1 << fall);
-                }
-                *coeff = if i < end { x as f32 } else { 0.0 };
-            }
-        }
-    }
-    coeffs
-}
+use ac3core::{ChannelRecord, Refusal, SheetBuilder, BLOCKS_PER_FRAME};
 
 fn main() -> Result<(), Refusal> {
-    let sheet = sheet()?;
+    let sheet = chord::sheet()?;
     println!("sheet of {} bytes, {} channels with ends {:?}", sheet.as_bytes().len(), sheet.channels(), sheet.ends());
 
-    let coeffs = chord(&sheet);
+    let coeffs = chord::coeffs(&sheet);
     let encoded = sheet.encode(&coeffs)?;
     println!("{}", encoded.counts);
     println!("body of {} bytes", encoded.body.len());
@@ -77,6 +30,14 @@ fn main() -> Result<(), Refusal> {
     let again = sheet.write(&reading.frame)?;
     assert_eq!(again, encoded.body);
     println!("written again: the same {} bytes", again.len());
+
+    // The listening copy of what was read. A bin without a level is silent.
+    let copy = sheet.reconstruct(&reading.frame)?;
+    let with_level: Vec<usize> = (0..sheet.entries()).filter(|&i| copy.has_level[i] == 1).collect();
+    let difference = |&i: &usize| (f64::from(coeffs[i]) - f64::from(copy.levels[i])).abs();
+    let largest = with_level.iter().map(difference).fold(0.0, f64::max);
+    let bins = BLOCKS_PER_FRAME * sheet.ends().iter().sum::<usize>();
+    println!("listened to: {} of {bins} bins have a level, the largest difference is {largest:.9}", with_level.len());
 
     let mut frame = encoded.frame.clone();
     let mut short = vec![0; encoded.body.len() - 1];

@@ -146,14 +146,25 @@ fn read_body(sheet: &[u8], short: usize) -> u32 {
     number
 }
 
+fn reconstruct_body(sheet: &[u8], short: usize) -> u32 {
+    let (exps, codes) = (vec![15; length(ENTRIES, 1, short)], vec![0; length(ENTRIES, 2, short)]);
+    let mut has_level = vec![MARK; length(ENTRIES, 3, short)];
+    let mut levels = vec![f32::from(MARK); length(ENTRIES, 4, short)];
+    let number = ffi::reconstruct_body(sheet, &exps, &codes, &mut has_level, &mut levels);
+    let marked = levels.iter().all(|&level| level == f32::from(MARK));
+    assert!(number == 0 || marked && left(&[&has_level], &[], &[]), "buffers after {number}");
+    number
+}
+
 /// Every entry that takes a sheet, with the number of its slices.
-const CALLS: [(&str, Call, usize); 6] = [
+const CALLS: [(&str, Call, usize); 7] = [
     ("check_sheet", check_sheet, 0),
     ("compute_bap", compute_bap, 2),
     ("mantissa_bits_total_ends", mantissa_bits_total_ends, 1),
     ("encode_body", encode_body, 4),
     ("write_body", write_body, 2),
     ("read_body", read_body, 3),
+    ("reconstruct_body", reconstruct_body, 4),
 ];
 
 #[test]

@@ -28,6 +28,9 @@ mod entries {
             sheet: *const u8, n: usize, channel: u32, exp: *const u8, m: usize, bap: *mut u8, k: usize,
         ) -> u32;
         pub fn ac3_quantise_mantissa(coeff: f32, exp: u32, bap: u32, code: *mut u16, one: usize) -> u32;
+        pub fn ac3_reconstruct_mantissa(
+            exponent: u32, bap: u32, code: u32, has_level: *mut u8, one: usize, level: *mut f32, one_: usize,
+        ) -> u32;
         pub fn ac3_write_mantissa_stream(
             out: *mut u8, n: usize, bap: *const u8, m: usize, codes: *const u16, k: usize, bits: *mut u32, one: usize,
         ) -> u32;
@@ -48,6 +51,10 @@ mod entries {
         pub fn ac3_read_body(
             sheet: *const u8, n: usize, input: *const u8, a: usize, exps: *mut u8, b: usize, bap: *mut u8, c: usize,
             codes: *mut u16, d: usize, counts: *mut u32, twelve: usize, bits: *mut u32, one: usize,
+        ) -> u32;
+        pub fn ac3_reconstruct_body(
+            sheet: *const u8, n: usize, exps: *const u8, b: usize, codes: *const u16, d: usize,
+            has_level: *mut u8, h: usize, levels: *mut f32, l: usize,
         ) -> u32;
         pub fn ac3_write_u32(out: *mut u8, size: usize, v: u32, n: u32, bits: *mut u32, one: usize) -> u32;
     }
@@ -129,6 +136,14 @@ pub fn quantise_mantissa(coeff: f32, exp: u32, bap: u32, code: &mut [u16; 1]) ->
     unsafe { entries::ac3_quantise_mantissa(coeff, exp, bap, code.as_mut_ptr(), 1) }
 }
 
+pub fn reconstruct_mantissa(exponent: u32, bap: u32, code: u32, has_level: &mut [u8; 1], level: &mut [f32; 1]) -> u32 {
+    // SAFETY: both results are live arrays of one entry, lent for writing; every exponent, bap and code may be asked
+    // for.
+    unsafe {
+        entries::ac3_reconstruct_mantissa(exponent, bap, code, has_level.as_mut_ptr(), 1, level.as_mut_ptr(), 1)
+    }
+}
+
 pub fn write_mantissa_stream(out: &mut [u8], bap: &[u8], codes: &[u16], bits: &mut [u32; 1]) -> u32 {
     // SAFETY: bap and codes only read, output and result lent for writing, all live and with their own lengths.
     unsafe {
@@ -190,6 +205,16 @@ pub fn read_body(
         entries::ac3_read_body(
             sheet.as_ptr(), sheet.len(), input.as_ptr(), input.len(), exps.as_mut_ptr(), exps.len(),
             bap.as_mut_ptr(), bap.len(), codes.as_mut_ptr(), codes.len(), counts.as_mut_ptr(), 12, bits.as_mut_ptr(), 1,
+        )
+    }
+}
+
+pub fn reconstruct_body(sheet: &[u8], exps: &[u8], codes: &[u16], has_level: &mut [u8], levels: &mut [f32]) -> u32 {
+    // SAFETY: sheet, exponents and codes only read, the others lent for writing, all live and with their own lengths.
+    unsafe {
+        entries::ac3_reconstruct_body(
+            sheet.as_ptr(), sheet.len(), exps.as_ptr(), exps.len(), codes.as_ptr(), codes.len(),
+            has_level.as_mut_ptr(), has_level.len(), levels.as_mut_ptr(), levels.len(),
         )
     }
 }

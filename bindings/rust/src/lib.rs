@@ -11,6 +11,7 @@
 //! | encode a frame of coefficients | [`Sheet::encode`], [`Sheet::encode_body`] in your own buffers |
 //! | write a body from exponents and codes | [`Sheet::write`], [`Sheet::write_body`] |
 //! | read a body | [`Sheet::read`], [`Sheet::read_body`] |
+//! | listen to a frame: each bin's level, or that it is silent | [`Sheet::reconstruct`], [`Sheet::reconstruct_body`] |
 //! | count mantissa bits | [`Sheet::mantissa_bits_total_ends`] |
 //! | do one step alone | [`steps`] |
 //!
@@ -33,7 +34,12 @@
 //! println!("{}\n{} bytes", encoded.counts, encoded.body.len());
 //!
 //! // Every body is read back as just the frame that was encoded.
-//! assert_eq!(sheet.read(&encoded.body)?.frame, encoded.frame);
+//! let frame = sheet.read(&encoded.body)?.frame;
+//! assert_eq!(frame, encoded.frame);
+//!
+//! // Listened to, a bin has a level, or none where it is silent.
+//! let bins: Vec<Option<f32>> = sheet.reconstruct(&frame)?.block(&sheet, 0, 0).collect();
+//! assert_eq!(bins[11], Some(0.5));
 //! # Ok::<(), ac3core::Refusal>(())
 //! ```
 //!
@@ -64,11 +70,13 @@ mod ffi;
 #[cfg(test)]
 mod causes;
 mod frame;
+mod reconstruct;
 mod refusal;
 mod sheet;
 pub mod steps;
 
 pub use frame::{Counts, Encoded, Frame, Reading};
+pub use reconstruct::Reconstruction;
 pub use refusal::Refusal;
 pub use sheet::{ChannelRecord, Common, Segment, Sheet, SheetBuilder, Strategy, BLOCKS_PER_FRAME, MAX_FBW, N_COEFFS};
 

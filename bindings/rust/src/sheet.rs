@@ -268,7 +268,7 @@ impl SheetBuilder {
 /// Equal settings are equal bytes: two sheets with the same [`common`](Sheet::common) part and the same
 /// [`records`](Sheet::records) have the same bytes. That is proved for the core.
 ///
-/// Coefficients, exponents, bap and codes of a frame are buffers of [`entries`](Sheet::entries) entries;
+/// Coefficients, exponents, bap, codes and levels of a frame are buffers of [`entries`](Sheet::entries) entries;
 /// [`part`](Sheet::part) and [`bins`](Sheet::bins) say where a channel's part of a block stands in them.
 ///
 /// ```

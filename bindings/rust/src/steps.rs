@@ -1,5 +1,5 @@
 //! The steps of the encoder, each alone (document 01, "Exponents" and "Mantissas"), under the names of the Rust that
-//! they were ported from.
+//! they were ported from; and the level of a bin, which document 02 adds (W3).
 //!
 //! A step takes ends 0..256, spans 1, 2 and 4, and slices of at most 256 entries (a stream of mantissas: two of one
 //! length, at most 1,536). Exponent writer and reader take only ends that a sheet may hold: 7, and 37..253 with end - 1
@@ -204,6 +204,33 @@ pub fn quantise_mantissa(coeff: f32, exp: u32, bap: u32) -> Result<u16, Refusal>
     let mut code = [0];
     answer(ffi::quantise_mantissa(coeff, exp, bap, &mut code))?;
     Ok(code[0])
+}
+
+/// The level of a bin (document 02, W3); none at bap 0, where the bin is silent and a player puts dither.
+///
+/// It is the f32 level of the code (bap 1..5), or the code as a signed number of its width over 2^(width-1) (bap
+/// 6..15), times 2^-exponent: exact, at most 2^-exponent in magnitude, never -0. At the same exponent and bap
+/// [`quantise_mantissa`] of the level gives the code back.
+///
+/// # Errors
+///
+/// In this order: [`Refusal::BadExponent`] for an exponent above 24; [`Refusal::BadCode`] for a bap above 15 or a code
+/// that its bap has not.
+///
+/// ```
+/// use ac3core::steps::{quantise_mantissa, reconstruct_mantissa};
+/// use ac3core::Refusal;
+///
+/// assert_eq!(reconstruct_mantissa(1, 6, 16), Ok(Some(-0.5))); // -16 / 16, halved
+/// assert_eq!(quantise_mantissa(-0.5, 1, 6), Ok(16));
+/// assert_eq!(reconstruct_mantissa(1, 0, 0), Ok(None));
+/// assert_eq!(reconstruct_mantissa(25, 1, 3), Err(Refusal::BadExponent));
+/// assert_eq!(reconstruct_mantissa(24, 1, 3), Err(Refusal::BadCode));
+/// ```
+pub fn reconstruct_mantissa(exponent: u32, bap: u32, code: u32) -> Result<Option<f32>, Refusal> {
+    let (mut has_level, mut level) = ([0], [0.0]);
+    answer(ffi::reconstruct_mantissa(exponent, bap, code, &mut has_level, &mut level))?;
+    Ok((has_level[0] == 1).then_some(level[0]))
 }
 
 /// Writes a stream of mantissas at the start of `out`, zero bits to the byte; gives the bits that it has without those.

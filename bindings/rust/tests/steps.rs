@@ -90,11 +90,21 @@ fn one_field() {
             for size in 0..4 {
                 let mut out = vec![0xa5u8; size];
                 let bytes = n.div_ceil(8) as usize;
-                let want = if n > 16 { Err(Refusal::OutOfRange) } else if size < bytes { Err(Refusal::NoRoom) } else { Ok(n) };
+                let want = if n > 16 {
+                    Err(Refusal::OutOfRange)
+                } else if size < bytes {
+                    Err(Refusal::NoRoom)
+                } else {
+                    Ok(n)
+                };
                 assert_eq!(write_u32(&mut out, v, n), want, "{n} bits of {v:#x} in {size} bytes");
                 for (i, byte) in out.iter().enumerate() {
                     let field = (0..8).map(|k| 8 * i as u32 + k).map(|k| if k < n { v >> (n - 1 - k) & 1 } else { 0 });
-                    let expected = if want.is_err() || i >= bytes { 0xa5 } else { field.fold(0, |byte, bit| byte << 1 | bit as u8) };
+                    let expected = if want.is_err() || i >= bytes {
+                        0xa5
+                    } else {
+                        field.fold(0, |byte, bit| byte << 1 | bit as u8)
+                    };
                     assert_eq!(*byte, expected, "byte {i} of {n} bits of {v:#x}");
                 }
             }

@@ -6,6 +6,7 @@ use mathlib.Core.Bool.{Bool, cond, not, _&&_}
 use mathlib.Core.List.{List, []}
 use Prim.Native.Nat.{ℕ, _*_}
 use lib.Dec.{eqb, ltb}
+use lib.Ieee.{Float}
 use lib.ListN.{length, getD, replicate}
 use Rattle.allocation.specs.Allocation.{answerOf, leftIn}
 use Rattle.bits.specs.Parts.{joined}
@@ -16,7 +17,7 @@ use Rattle.sheet.specs.Record.{recordOf}
 use Rattle.sheet.specs.Sheet.{checkOf, checkBeside}
 
 -- a result slice has its n entries
-abbrev pub hasLength : ℕ → List ℕ → Bool
+abbrev pub hasLength : {A : Type 0} → ℕ → List A → Bool
 hasLength n slot = eqb (length slot) n
 
 -- ---- the number, where `right` says that each result slice has its length
@@ -36,11 +37,11 @@ sheetFirst sheet right number = cond right number (cond (eqb (checkOf sheet) ref
 -- ---- what is left
 
 -- a result slice for n values: these, or as it was where it has another length
-unfoldable pub returned : ℕ → List ℕ → List ℕ → List ℕ
+unfoldable pub returned : {A : Type 0} → ℕ → List A → List A → List A
 returned n values slot = cond (hasLength n slot) values slot
 
 -- a buffer of the call, or one of the values that it returns: as the call leaves it, or `before` where the call is not made
-unfoldable pub ifCalled : Bool → List ℕ → List ℕ → List ℕ
+unfoldable pub ifCalled : {A : Type 0} → Bool → List A → List A → List A
 ifCalled right after before = cond right after before
 
 -- ---- the strategies of all channels: six entries for each channel, channel by block
@@ -77,3 +78,8 @@ allocationLeft sheet channel exp bap =
 
 unfoldable pub rightSlots : List ℕ → List ℕ → Bool
 rightSlots counts bits = hasLength 12 counts && hasLength 1 bits
+
+-- ---- a bin's flag and its level
+
+unfoldable pub oneEach : List ℕ → List Float → Bool
+oneEach flag level = hasLength 1 flag && hasLength 1 level

@@ -6,6 +6,7 @@ use Prim.Native.Nat.{ℕ, _*_, _/_, _%_}
 use native.Mathlib.Omega.{arith}
 use borrow.Author.Tests.{eqb-true, eqb-false, eq-eqb, ne-eqb}
 use lib.Dec.{eqb}
+use lib.Ieee.{Float}
 use lib.ListN.{length, set, replicate}
 use Rattle.allocation.specs.Allocation.{answerOf, leftIn}
 use Rattle.bits.specs.Answer.{outputOf}
@@ -21,10 +22,10 @@ use Rattle.sheet.specs.Record.{recordOf}
 use Rattle.sheet.specs.Sheet.{checkOf}
 use Rattle.sheet.specs.declared.common_part.Common.{Common}
 use Rattle.sheet.specs.declared.record.ChannelRecord.{ChannelRecord}
-use Rattle.host.specs.Entries.{lengthFirst, rangeFirst, sheetFirst, returned, ifCalled, selectNumber, rowsOf, selectRows, allocationCheck, allocationNumber, allocationLeft, rightSlots}
+use Rattle.host.specs.Entries.{lengthFirst, rangeFirst, sheetFirst, returned, ifCalled, selectNumber, rowsOf, selectRows, allocationCheck, allocationNumber, allocationLeft, rightSlots, oneEach}
 
 -- a store to the one entry
-pub set-one : (l : List ℕ) (v : ℕ) → length l ≡ 1 → set l 0 v ≡ v ∷ []
+pub set-one : {A : Type 0} (l : List A) (v : A) → length l ≡ 1 → set l 0 v ≡ v ∷ []
 set-one [] v h = absurd (omega arith)
 set-one (x ∷ []) v h = refl
 set-one (x ∷ y ∷ l) v h = absurd (omega arith)
@@ -36,7 +37,7 @@ module _ (right : Bool) (number : ℕ) where
   unfolding lengthFirst
   length-wrong e = rw e
 
-  length-right : right ≡ true → number ≡ lengthFirst right number
+  pub length-right : right ≡ true → number ≡ lengthFirst right number
   unfolding lengthFirst
   length-right e = rw e
 
@@ -73,21 +74,21 @@ module _ (right : Bool) (number : ℕ) where
 
 -- ---- what is left
 
-module _ (n : ℕ) (values slot : List ℕ) where
+module _ {A : Type 0} (n : ℕ) (values slot : List A) where
   pub slot-left : (length slot ≡ n → ⊥) → slot ≡ returned n values slot
   unfolding returned
   slot-left h = rw (ne-eqb (length slot) n h)
 
-  pub slot-holds : (slot' : List ℕ) → length slot ≡ n → slot' ≡ values → slot' ≡ returned n values slot
+  pub slot-holds : (slot' : List A) → length slot ≡ n → slot' ≡ values → slot' ≡ returned n values slot
   unfolding returned
   slot-holds slot' h e = rw (eq-eqb (length slot) n h) e
 
-module _ (right : Bool) (after before : List ℕ) where
+module _ {A : Type 0} (right : Bool) (after before : List A) where
   pub not-called : right ≡ false → before ≡ ifCalled right after before
   unfolding ifCalled
   not-called e = rw e
 
-  pub called : (now' : List ℕ) → right ≡ true → now' ≡ after → now' ≡ ifCalled right after before
+  pub called : (now' : List A) → right ≡ true → now' ≡ after → now' ≡ ifCalled right after before
   unfolding ifCalled
   called now' e q = q ∙ rw e
 
@@ -137,14 +138,29 @@ module _ (counts bits : List ℕ) where
   unfolding rightSlots
   bits-wrong p q = rw (eq-eqb (length counts) 12 p, ne-eqb (length bits) 1 q)
 
-module _ (right : Bool) (n : ℕ) (none slot slot' : List ℕ) where
+module _ {A : Type 0} (right : Bool) (n : ℕ) (none slot slot' : List A) where
   -- 0 where the call is not made
-  pub none-returned : (values : List ℕ) → right ≡ false → slot' ≡ returned n none slot → slot' ≡ returned n (ifCalled right values none) slot
-  none-returned values e q = q ∙ ap (λ (v : List ℕ). returned n v slot) (not-called right values none e)
+  pub none-returned : (values : List A) → right ≡ false → slot' ≡ returned n none slot → slot' ≡ returned n (ifCalled right values none) slot
+  none-returned values e q = q ∙ ap (λ (v : List A). returned n v slot) (not-called right values none e)
 
   -- what it gives where it is made
-  pub all-returned : (values : List ℕ) → right ≡ true → length slot ≡ n → slot' ≡ values → slot' ≡ returned n (ifCalled right values none) slot
+  pub all-returned : (values : List A) → right ≡ true → length slot ≡ n → slot' ≡ values → slot' ≡ returned n (ifCalled right values none) slot
   all-returned values e h q = slot-holds n (ifCalled right values none) slot slot' h (called right values none slot' e q)
+
+-- ---- a bin's two result slices
+
+module _ (flag : List ℕ) (level : List Float) where
+  pub one-each : length flag ≡ 1 → length level ≡ 1 → oneEach flag level ≡ true
+  unfolding oneEach
+  one-each p q = rw (eq-eqb (length flag) 1 p, eq-eqb (length level) 1 q)
+
+  pub flag-wrong : (length flag ≡ 1 → ⊥) → oneEach flag level ≡ false
+  unfolding oneEach
+  flag-wrong p = rw (ne-eqb (length flag) 1 p)
+
+  pub level-wrong : length flag ≡ 1 → (length level ≡ 1 → ⊥) → oneEach flag level ≡ false
+  unfolding oneEach
+  level-wrong p q = rw (eq-eqb (length flag) 1 p, ne-eqb (length level) 1 q)
 
 -- ---- the strategies
 

@@ -4,6 +4,7 @@ pub mod allocation_entry;
 pub mod exponent_entries;
 pub mod frame_entries;
 pub mod mantissa_entries;
+pub mod reconstruct_entries;
 pub mod results;
 pub mod shaping_entries;
 pub mod sheet_entry;

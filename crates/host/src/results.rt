@@ -26,6 +26,13 @@ pub(crate) fn return_count(slot: &mut [u32], value: u32)
     slot[0] = value;
 }
 
+pub(crate) fn return_level(slot: &mut [f32], value: f32)
+    requires { ⌜ length (now slot) ≡ 1 ⌝ }
+    ensures { λ _. ⌜ now (slot .exit) ≡ value ∷ [] ⌝ }
+{
+    slot[0] = value;
+}
+
 // The mantissa bits of six blocks.
 pub(crate) fn return_six(slot: &mut [u32], values: [u32; 6])
     requires { ⌜ length (now slot) ≡ 6 ⌝ }
