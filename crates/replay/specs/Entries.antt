@@ -1,7 +1,10 @@
 -- Entries wider than a byte, as a part of the list has them: the highest byte of each entry, then the next byte of each, and so on.
 use Prim.Native.Nat.{ℕ, _+_, _*_}
+use mathlib.Core.Bool.{cond}
 use mathlib.Core.Path.{_≡_}
-use mathlib.Core.List.{List}
+use mathlib.Core.List.{List, map}
+use lib.Ieee.{Float, binary32, toBits}
+use lib.Ieee.Scale.{finite}
 use lib.ListN.{length, getD}
 use Rattle.bits.specs.Parts.{tab}
 
@@ -32,3 +35,10 @@ SameCodes codes part = (length part ≡ 2 * length codes) × (codes ≡ codesIn 
 
 abbrev pub SameWords : List ℕ → List ℕ → Type 0
 SameWords words part = (length part ≡ 4 * length words) × (words ≡ wordsIn (length words) part)
+
+-- the bits of a level; what is not finite, which the list has nowhere, has those of one NaN
+unfoldable pub patternOf : Float → ℕ
+patternOf level = cond (finite level) (toBits binary32 level) 4294967295
+
+abbrev pub SameLevels : List Float → List ℕ → Type 0
+SameLevels levels part = (length part ≡ 4 * length levels) × (map patternOf levels ≡ wordsIn (length levels) part)

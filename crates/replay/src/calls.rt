@@ -33,3 +33,7 @@ pub const ENCODE_BODY: u32 = 14;
 pub const WRITE_BODY: u32 = 15;
 
 pub const READ_BODY: u32 = 16;
+
+pub const RECONSTRUCT_MANTISSA: u32 = 17;
+
+pub const RECONSTRUCT_BODY: u32 = 18;

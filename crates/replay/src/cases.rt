@@ -7,6 +7,7 @@ use crate::exponent_steps;
 use crate::frame_steps;
 use crate::mantissa_steps;
 use crate::parts::number_at;
+use crate::reconstruct_steps;
 use crate::sheet_steps;
 
 // Up to four arguments (an end, a span, a length, a pattern), then what is expected: the refusal and the value.
@@ -83,7 +84,7 @@ pub(crate) fn replay(bytes: &[u8]) -> Outcome {
     if bytes.len() != g {
         return without_case(DAMAGED);
     }
-    if calls::READ_BODY < case.call {
+    if calls::RECONSTRUCT_BODY < case.call {
         return without_case(DAMAGED);
     }
     let same = is_same(
@@ -135,7 +136,10 @@ fn is_same(
     if case.call == calls::WRITE_BODY {
         return frame_steps::write_body(case, a, b, c, d, e);
     }
-    frame_steps::read_body(case, a, b, c, d, e, f)
+    if case.call == calls::READ_BODY {
+        return frame_steps::read_body(case, a, b, c, d, e, f);
+    }
+    reconstruct_step(case, a, b, c, d, e)
 }
 
 fn exponent_step(case: Case, a: &[u8], b: &[u8]) -> bool {
@@ -171,4 +175,11 @@ fn mantissa_step(case: Case, a: &[u8], b: &[u8], c: &[u8]) -> bool {
         return mantissa_steps::read_mantissa_stream(case, a, b, c);
     }
     mantissa_steps::mantissa_bits_total_ends(case, a, b, c)
+}
+
+fn reconstruct_step(case: Case, a: &[u8], b: &[u8], c: &[u8], d: &[u8], e: &[u8]) -> bool {
+    if case.call == calls::RECONSTRUCT_MANTISSA {
+        return reconstruct_steps::reconstruct_mantissa(case, a, b);
+    }
+    reconstruct_steps::reconstruct_body(case, a, b, c, d, e)
 }

@@ -2,7 +2,7 @@
 ghost use mathlib.Core.Path.{_≡_};
 ghost use mathlib.Core.Bool.{true, _&&_};
 ghost use lib.Dec.{eqb};
-ghost use Rattle.replay.specs.Entries.{SameCodes, SameWords};
+ghost use Rattle.replay.specs.Entries.{SameCodes, SameWords, SameLevels, patternOf};
 use crate::cases::Case;
 use crate::parts::code_of;
 use crate::parts::word_of;
@@ -44,6 +44,38 @@ pub(crate) fn same_counts(counts: &[u32], part: &[u8]) -> bool
     let mut i = 0;
     while i < n {
         if counts[i] != word_of(part[i], part[n + i], part[2 * n + i], part[3 * n + i]) {
+            return false;
+        }
+        i += 1;
+    }
+    true
+}
+
+// The bits of a level. What is not finite has those of a NaN that the list has nowhere: no level is one, and no output holds one before.
+fn pattern_of(level: f32) -> u32
+    ensures { λ r. ⌜ r ≡ patternOf level ⌝ }
+{
+    if shaping::is_finite(level) {
+        return f32::to_bits(level);
+    }
+    0xffffffff
+}
+
+// Whether these levels are the ones of the part, bit for bit.
+pub(crate) fn same_levels(levels: &[f32], part: &[u8]) -> bool
+    ensures { λ r. ⌜ (r ≡ true → SameLevels (now (levels .entry)) (now (part .entry))) × (SameLevels (now (levels .entry)) (now (part .entry)) → r ≡ true) ⌝ }
+{
+    let n = levels.len();
+    if part.len() % 4 != 0 {
+        return false;
+    }
+    if part.len() / 4 != n {
+        return false;
+    }
+    let mut i = 0;
+    while i < n {
+        let word = word_of(part[i], part[n + i], part[2 * n + i], part[3 * n + i]);
+        if pattern_of(levels[i]) != word {
             return false;
         }
         i += 1;

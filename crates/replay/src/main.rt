@@ -12,11 +12,12 @@ pub mod mantissa_steps;
 pub mod packing;
 pub mod parts;
 pub mod reading;
+pub mod reconstruct_steps;
 pub mod sheet_steps;
 
 fn main() {
-    let mut ran = [0u32; 17];
-    let mut differed = [0u32; 17];
+    let mut ran = [0u32; 19];
+    let mut differed = [0u32; 19];
     let whole = reading::each_case(&mut ran, &mut differed);
     lines::all(ran, differed);
     if !whole {

@@ -54,14 +54,14 @@ fn next() -> Outcome {
     of_lengths(&lengths[..n])
 }
 
-fn count(cases: &mut [u32; 17], call: usize) {
-    if call < 17 {
+fn count(cases: &mut [u32; 19], call: usize) {
+    if call < 19 {
         cases[call] = std::num::wrapping_add_u32(cases[call], 1);
     }
 }
 
 // Counts the cases of each call, and those that differ. Answers whether the list is whole.
-pub(crate) fn each_case(ran: &mut [u32; 17], differed: &mut [u32; 17]) -> bool {
+pub(crate) fn each_case(ran: &mut [u32; 19], differed: &mut [u32; 19]) -> bool {
     let mut left = MOST_CASES;
     while left > 0 {
         let outcome = next();

@@ -5,10 +5,10 @@ use Rattle.replay.proofs.lines.sum.Statement.{statement}
 use Rattle.replay.proofs.lines.sum.Tie as tie
 
 abbrev Inv-loop : tie.InvT-loop
-Inv-loop counts all₀ i₀ all i = i ≤ 17
+Inv-loop counts all₀ i₀ all i = i ≤ 19
 
 abbrev μ-loop : tie.MeasureT-loop
-μ-loop counts all₀ i₀ all i = 17 - i
+μ-loop counts all₀ i₀ all i = 19 - i
 
 pub sum-spec : {M : Type 1} → statement M
 sum-spec =
