@@ -2,9 +2,11 @@
 use crate::entries;
 use crate::inputs::{frames, size_of, Input, MANY};
 use crate::source::{bools, nothing, packed};
+use crate::steps::{both, keep};
 use crate::timing::times;
 use crate::{head, line};
 use rust_reference::model as m;
+use rust_reference::requests;
 use std::hint::black_box;
 
 const ROOM: usize = 20_500;
@@ -16,14 +18,54 @@ struct Left {
     codes: Vec<u16>,
     body: Vec<u8>,
     counts: [u32; 12],
+    bits: [u32; 1],
 }
 
 impl Left {
     fn new(entries: usize) -> Left {
-        Left { exps: vec![0; entries], bap: vec![0; entries], codes: vec![0; entries], body: vec![0; ROOM], counts: [0; 12] }
+        let (exps, bap, codes) = (vec![0; entries], vec![0; entries], vec![0; entries]);
+        Left { exps, bap, codes, body: vec![0; ROOM], counts: [0; 12], bits: [0] }
     }
     fn encode(&mut self, i: &Input) -> u32 {
         entries::encode_body(&i.bytes, &i.coeffs, &mut self.exps, &mut self.bap, &mut self.codes, &mut self.body, &mut self.counts)
+    }
+    fn write(&mut self, i: &Input, e: &Encoded) -> u32 {
+        entries::write_body(&i.bytes, &e.exps, &e.codes, &mut self.body, &mut self.counts)
+    }
+    fn read(&mut self, i: &Input, e: &Encoded) -> u32 {
+        entries::read_body(&i.bytes, &e.body, &mut self.exps, &mut self.bap, &mut self.codes, &mut self.counts, &mut self.bits)
+    }
+}
+
+/// A frame as the port has encoded it.
+struct Encoded {
+    exps: Vec<u8>,
+    codes: Vec<u16>,
+    body: Vec<u8>,
+}
+
+fn encoded(all: &[Input]) -> Vec<Encoded> {
+    let mut port = Left::new(all[0].coeffs.len());
+    let mut one = |i: &Input| {
+        port.encode(i);
+        let bytes = port.counts.iter().sum::<u32>().div_ceil(8) as usize;
+        Encoded { exps: port.exps.clone(), codes: port.codes.clone(), body: port.body[..bytes].to_vec() }
+    };
+    all.iter().map(&mut one).collect()
+}
+
+/// What the port writes the levels of a frame to.
+struct Levels {
+    has_level: Vec<u8>,
+    levels: Vec<f32>,
+}
+
+impl Levels {
+    fn new(entries: usize) -> Levels {
+        Levels { has_level: vec![0; entries], levels: vec![0.0; entries] }
+    }
+    fn reconstruct(&mut self, i: &Input, e: &Encoded) -> u32 {
+        entries::reconstruct_body(&i.bytes, &e.exps, &e.codes, &mut self.has_level, &mut self.levels)
     }
 }
 
@@ -78,33 +120,35 @@ fn growth(sizes: &[(u8, u8, Vec<f64>, usize)]) {
 /// The second entry and the reader, which the Rust has not.
 fn others(rounds: usize, channels: u8, end: u8) {
     let all = frames(channels, end);
-    let mut port = Left::new(all[0].coeffs.len());
-    let made: Vec<(Vec<u8>, Vec<u16>, Vec<u8>)> = all
-        .iter()
-        .map(|i| {
-            port.encode(i);
-            let bytes = port.counts.iter().sum::<u32>().div_ceil(8) as usize;
-            (port.exps.clone(), port.codes.clone(), port.body[..bytes].to_vec())
-        })
-        .collect();
-    let size = size_of(channels, end);
-    let mut write =
-        |i: usize| entries::write_body(&all[i % MANY].bytes, &made[i % MANY].0, &made[i % MANY].1, &mut port.body, &mut port.counts);
-    line("write_body", &size, &times(rounds, &mut [&mut |i| _ = black_box(write(i))]));
-    let mut bits = [0u32];
-    let mut read = |i: usize| {
-        entries::read_body(
-            &all[i % MANY].bytes,
-            &made[i % MANY].2,
-            &mut port.exps,
-            &mut port.bap,
-            &mut port.codes,
-            &mut port.counts,
-            &mut bits,
-        )
-    };
-    line("read_body", &size, &times(rounds, &mut [&mut |i| _ = black_box(read(i))]));
+    let (made, mut port, size) = (encoded(&all), Left::new(all[0].coeffs.len()), size_of(channels, end));
+    line("write_body", &size, &times(rounds, &mut [&mut |i| keep(port.write(&all[i % MANY], &made[i % MANY]))]));
+    line("read_body", &size, &times(rounds, &mut [&mut |i| keep(port.read(&all[i % MANY], &made[i % MANY]))]));
 }
+
+/// The levels are the oracle's, bit for bit: what is timed is right.
+fn check_levels(all: &[Input], made: &[Encoded]) {
+    for (i, e) in all.iter().zip(made) {
+        let (mut here, mut there) = (Levels::new(e.exps.len()), Levels::new(e.exps.len()));
+        let codes: Vec<u32> = e.codes.iter().map(|&c| c as u32).collect();
+        assert_eq!(here.reconstruct(i, e), 0);
+        assert_eq!(requests::reconstruct_body(&i.bytes, &e.exps, &codes, &mut there.has_level, &mut there.levels), 0);
+        assert!(here.has_level == there.has_level && here.levels.iter().zip(&there.levels).all(|(a, b)| a.to_bits() == b.to_bits()));
+    }
+}
+
+/// The levels of a frame beside the reading of its body, which makes what they are made of: both allocate, and the levels are to take no longer.
+fn levels(rounds: usize, channels: u8, end: u8) {
+    let all = frames(channels, end);
+    let (made, n) = (encoded(&all), all[0].coeffs.len());
+    check_levels(&all, &made);
+    let (mut levels, mut reader) = (Levels::new(n), Left::new(n));
+    let reconstruct = |i: usize| keep(levels.reconstruct(&all[i % MANY], &made[i % MANY]));
+    let read = |i: usize| keep(reader.read(&all[i % MANY], &made[i % MANY]));
+    both(rounds, "reconstruct_body", &size_of(channels, end), reconstruct, read);
+}
+
+/// The sizes at which the calls that the Rust has not are timed: channels and end.
+const OTHERS: [(u8, u8); 5] = [(1, 37), (1, 133), (1, 253), (2, 253), (6, 253)];
 
 pub fn run(rounds: usize) {
     let forms = ["Rust joined, stand-in writer", "Rust joined, byte-packing writer", "Rust joined, nothing written", "the oracle's model"];
@@ -116,7 +160,7 @@ pub fn run(rounds: usize) {
     }
     growth(&sizes);
     head("Whole frames, calls that the Rust has not", &[]);
-    for (channels, end) in [(1, 37), (1, 133), (1, 253), (2, 253), (6, 253)] {
-        others(rounds, channels, end);
-    }
+    OTHERS.iter().for_each(|&(channels, end)| others(rounds, channels, end));
+    head("Whole frames, levels beside the port's own reader, in brackets their time by the reader's", &["read_body"]);
+    OTHERS.iter().for_each(|&(channels, end)| levels(rounds, channels, end));
 }

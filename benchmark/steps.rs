@@ -43,8 +43,8 @@ pub fn run(rounds: usize) {
     each.iter().for_each(|(end, all)| readers(rounds, all, *end));
 }
 
-/// The port beside the Rust.
-fn both(rounds: usize, step: &str, size: &str, mut port: impl FnMut(usize), mut rust: impl FnMut(usize)) {
+/// The port beside the Rust, or beside another call of its own.
+pub fn both(rounds: usize, step: &str, size: &str, mut port: impl FnMut(usize), mut rust: impl FnMut(usize)) {
     let taken = times(rounds, &mut [&mut port, &mut rust]);
     line(step, size, &taken);
 }

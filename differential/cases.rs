@@ -5,16 +5,19 @@ use crate::program;
 use crate::tally::Tally;
 use rust_reference::cases::{Case, F};
 use rust_reference::gen;
+use rust_reference::gen_requests;
 use rust_reference::rng::Rng;
 
 /// What every output slice holds before a call (the oracle's FORMAT.md).
 pub const FILL: u8 = 0xa5;
 pub const FILL_CODE: u16 = 0xa5a5;
+pub const FILL_LEVEL: f32 = f32::from_bits(0xa5a5_a5a5);
 
 #[rustfmt::skip]
-pub const STEPS: [&str; 18] = [
+pub const STEPS: [&str; 20] = [
     "sheet", "extract", "preprocess", "quantise", "write_exponents", "read_exponents", "pick", "select", "allocate", "allocate_sheet",
     "quantise_mantissa", "write_mantissas", "read_mantissas", "count", "encode", "write_frame", "read_frame", "program",
+    "reconstruct", "reconstruct_body",
 ];
 
 /// The inputs of a case by name.
@@ -61,6 +64,11 @@ fn words_of(v: &[u16]) -> F {
     F::U32(v.iter().map(|&c| c as u32).collect())
 }
 
+/// The bit patterns of floats: what is compared, so that -0 is not 0.
+pub fn bits_of(v: &[f32]) -> Vec<u32> {
+    v.iter().map(|x| x.to_bits()).collect()
+}
+
 /// A sheet that gives one channel these parameters; the LFE's end stands beside a full channel.
 pub fn sheet_for(p: &[u8], segs: &[u8], end: usize) -> Option<(Vec<u8>, u32)> {
     let lfe = end == 7;
@@ -93,6 +101,7 @@ fn call(step: &str, c: &Inputs) -> Option<Given> {
         "allocate_sheet" => Some(call_allocation_under(c.bytes("sheet"), c.number("channel") as u32, c)),
         "quantise_mantissa" | "write_mantissas" | "read_mantissas" | "count" => call_mantissas(step, c),
         "program" => Some(run_program(c.bytes("stdin"))),
+        "reconstruct" | "reconstruct_body" => call_reconstruction(step, c),
         _ => call_frame(step, c),
     }
 }
@@ -209,6 +218,17 @@ fn call_frame(step: &str, c: &Inputs) -> Option<Given> {
     }
 }
 
+fn call_reconstruction(step: &str, c: &Inputs) -> Option<Given> {
+    let (mut has, mut level) = (vec![FILL; c.number("haslen")], vec![FILL_LEVEL; c.number("levellen")]);
+    let k = if step == "reconstruct" {
+        let word = |name| c.number(name) as u32;
+        entries::reconstruct_mantissa(word("exponent"), word("bap"), word("code"), &mut has, &mut level)
+    } else {
+        entries::reconstruct_body(c.bytes("sheet"), c.bytes("exp"), &c.codes("code")?, &mut has, &mut level)
+    };
+    Some((k, vec![("has", F::U8(has)), ("level", F::F32(bits_of(&level)))]))
+}
+
 fn run_program(input: &[u8]) -> Given {
     let printed = program::printed(input);
     (program::refusal(&printed), vec![("stdout", F::U8(printed))])
@@ -219,6 +239,7 @@ fn same(name: &str, a: &F, b: &F) -> bool {
     match (a, b) {
         (F::N(x), F::N(y)) => x == y,
         (F::U8(x), F::U8(y)) => x == y,
+        (F::F32(x), F::F32(y)) => x == y,
         (F::U32(x), F::U32(y)) if name == "counts" => x == y,
         (F::U32(x), F::U32(y)) => x.len() == y.len() && x.iter().zip(y).all(|(p, q)| p & 0xffff == q & 0xffff),
         _ => false,
@@ -239,16 +260,37 @@ fn difference(case: &Case, given: &Given) -> Option<String> {
     None
 }
 
+/// Whether the oracle keeps a step among those that document 02 adds.
+fn added(step: &str) -> bool {
+    gen_requests::steps().contains(&step)
+}
+
+fn chosen_cases(step: &str, seed: u64) -> Vec<Case> {
+    if added(step) {
+        gen_requests::sharp(step, seed)
+    } else {
+        gen::sharp(step, seed)
+    }
+}
+
+fn random_case(step: &str, g: &mut Rng) -> Case {
+    if added(step) {
+        gen_requests::random(step, g)
+    } else {
+        gen::random(step, g)
+    }
+}
+
 /// The chosen cases of a step and `count` random ones. A case that no entry can be handed (a code beyond 16 bits, parameters that no
 /// sheet says) is left out and counted.
 pub fn run(tally: &mut Tally, step: &str, count: u64, seed: u64) {
     let mut g = Rng::new(seed);
     let line = tally.step(&format!("cases: {step}"));
     let mut unsaid = 0u64;
-    let mut chosen = gen::sharp(step, seed).into_iter();
+    let mut chosen = chosen_cases(step, seed).into_iter();
     let total = chosen.len() as u64 + count;
     for _ in 0..total {
-        let case = chosen.next().unwrap_or_else(|| gen::random(step, &mut g));
+        let case = chosen.next().unwrap_or_else(|| random_case(step, &mut g));
         match call(step, &Inputs(&case)) {
             None => unsaid += 1,
             Some(given) => {

@@ -44,6 +44,13 @@ extern "C" {
         sheet: *const u8, n: usize, input: *const u8, a: usize, exps: *mut u8, b: usize, bap: *mut u8, c: usize, codes: *mut u16,
         d: usize, counts: *mut u32, twelve: usize, bits: *mut u32, one: usize,
     ) -> u32;
+    fn ac3_reconstruct_mantissa(
+        exponent: u32, bap: u32, code: u32, has_level: *mut u8, one: usize, level: *mut f32, one_: usize,
+    ) -> u32;
+    fn ac3_reconstruct_body(
+        sheet: *const u8, n: usize, exps: *const u8, b: usize, codes: *const u16, d: usize, has_level: *mut u8, h: usize,
+        levels: *mut f32, l: usize,
+    ) -> u32;
     fn ac3_write_u32(out: *mut u8, size: usize, v: u32, n: u32, bits: *mut u32, one: usize) -> u32;
 }
 
@@ -173,6 +180,25 @@ pub fn read_body(
         ac3_read_body(
             sheet.as_ptr(), sheet.len(), input.as_ptr(), input.len(), exps.as_mut_ptr(), exps.len(), bap.as_mut_ptr(), bap.len(),
             codes.as_mut_ptr(), codes.len(), counts.as_mut_ptr(), counts.len(), bits.as_mut_ptr(), bits.len(),
+        )
+    }
+}
+
+#[rustfmt::skip]
+pub fn reconstruct_mantissa(exponent: u32, bap: u32, code: u32, has_level: &mut [u8], level: &mut [f32]) -> u32 {
+    unsafe {
+        ac3_reconstruct_mantissa(
+            exponent, bap, code, has_level.as_mut_ptr(), has_level.len(), level.as_mut_ptr(), level.len(),
+        )
+    }
+}
+
+#[rustfmt::skip]
+pub fn reconstruct_body(sheet: &[u8], exps: &[u8], codes: &[u16], has_level: &mut [u8], levels: &mut [f32]) -> u32 {
+    unsafe {
+        ac3_reconstruct_body(
+            sheet.as_ptr(), sheet.len(), exps.as_ptr(), exps.len(), codes.as_ptr(), codes.len(), has_level.as_mut_ptr(), has_level.len(),
+            levels.as_mut_ptr(), levels.len(),
         )
     }
 }

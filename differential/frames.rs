@@ -1,12 +1,13 @@
-//! Whole frames: from coefficients, from exponents and codes, read back, and damaged copies of the body read; with their records in any order;
-//! and the long run over random ones.
-use crate::cases::{FILL, FILL_CODE};
+//! Whole frames: from coefficients, from exponents and codes, read back, and damaged copies of the body read; the levels of all these; with their
+//! records in any order; and the long run over random ones.
+use crate::cases::{bits_of, FILL, FILL_CODE, FILL_LEVEL};
 use crate::entries;
 use crate::spectra::{self, NOT_FINITE};
 use crate::tally::Tally;
 use rust_reference::gen::{self, Wish};
 use rust_reference::model as m;
 use rust_reference::reference as r;
+use rust_reference::requests;
 use rust_reference::rng::Rng;
 use std::time::Instant;
 
@@ -16,7 +17,7 @@ pub const ROOM: usize = 20_500;
 /// The greatest fraction field at which the Rust's extraction must be the exponent field's (document 01).
 pub const COMPARED_FRACTION: u32 = (1 << 23) - 65;
 
-/// What a frame call leaves: answer, twelve counts, exponents, bap, codes, and body or bits read.
+/// What a frame call leaves: answer, twelve counts, exponents, bap, codes, and body or bits read; or levels, by their bits.
 #[derive(PartialEq, Debug)]
 pub struct Left {
     pub answer: u32,
@@ -26,13 +27,25 @@ pub struct Left {
     pub codes: Vec<u16>,
     pub body: Vec<u8>,
     pub bits: u32,
+    pub has_level: Vec<u8>,
+    pub levels: Vec<u32>,
 }
 
 impl Left {
     fn before(entries: usize, room: usize) -> Left {
-        let (exps, bap) = (vec![FILL; entries], vec![FILL; entries]);
-        Left { answer: 0, counts: vec![7; 12], exps, bap, codes: vec![FILL_CODE; entries], body: vec![FILL; room], bits: 0 }
+        let (exps, bap, codes) = (vec![FILL; entries], vec![FILL; entries], vec![FILL_CODE; entries]);
+        let (has_level, levels) = (vec![], vec![]);
+        Left { answer: 0, counts: vec![7; 12], exps, bap, codes, body: vec![FILL; room], bits: 0, has_level, levels }
     }
+
+    /// What a reconstruction leaves.
+    fn of_levels(answer: u32, has_level: Vec<u8>, levels: &[f32]) -> Left {
+        Left { answer, has_level, levels: bits_of(levels), ..Left::before(0, 0) }
+    }
+}
+
+fn wide(codes: &[u16]) -> Vec<u32> {
+    codes.iter().map(|&c| c as u32).collect()
 }
 
 fn low_halves(codes: &[u32]) -> Vec<u16> {
@@ -66,8 +79,7 @@ fn written_here(sheet: &[u8], exps: &[u8], codes: &[u16], room: usize) -> Left {
 
 fn written_there(sheet: &[u8], exps: &[u8], codes: &[u16], room: usize) -> Left {
     let mut l = Left::before(0, room);
-    let wide: Vec<u32> = codes.iter().map(|&c| c as u32).collect();
-    let a = m::write_frame(sheet, exps, &wide, &mut l.body);
+    let a = m::write_frame(sheet, exps, &wide(codes), &mut l.body);
     Left { answer: a.number as u32, counts: twelve(&a), ..l }
 }
 
@@ -91,6 +103,20 @@ fn read_there(sheet: &[u8], input: &[u8], entries: usize) -> Left {
     Left { answer: a.number as u32, counts: twelve(&a), codes: low_halves(&codes), bits, ..l }
 }
 
+/// The levels of exponents and codes, through the archive, into buffers of these two lengths.
+pub fn reconstructed_here(sheet: &[u8], exps: &[u8], codes: &[u16], lengths: [usize; 2]) -> Left {
+    let (mut has_level, mut levels) = (vec![FILL; lengths[0]], vec![FILL_LEVEL; lengths[1]]);
+    let answer = entries::reconstruct_body(sheet, exps, codes, &mut has_level, &mut levels);
+    Left::of_levels(answer, has_level, &levels)
+}
+
+/// The same, by the oracle's model.
+pub fn reconstructed_there(sheet: &[u8], exps: &[u8], codes: &[u16], lengths: [usize; 2]) -> Left {
+    let (mut has_level, mut levels) = (vec![FILL; lengths[0]], vec![FILL_LEVEL; lengths[1]]);
+    let answer = requests::reconstruct_body(sheet, exps, &wide(codes), &mut has_level, &mut levels);
+    Left::of_levels(answer as u32, has_level, &levels)
+}
+
 pub fn note(tally: &mut Tally, step: &str, label: &str, sheet: &[u8], here: &Left, there: &Left) {
     tally.step(step).case(there.answer, here == there, || {
         let part = if here.answer != there.answer {
@@ -103,11 +129,19 @@ pub fn note(tally: &mut Tally, step: &str, label: &str, sheet: &[u8], here: &Lef
                 ("codes", here.codes == there.codes),
                 ("body", here.body == there.body),
                 ("bits read", here.bits == there.bits),
+                ("has_level", here.has_level == there.has_level),
+                ("levels", here.levels == there.levels),
             ];
             parts.iter().filter(|p| !p.1).map(|p| p.0).collect::<Vec<_>>().join(", ")
         };
         format!("{step}, {label}: {part}\n  sheet {sheet:02x?}")
     });
+}
+
+/// The levels through the archive beside the oracle's; each is given exponents and codes of its own, most often the same.
+fn note_levels(tally: &mut Tally, step: &str, label: &str, sheet: &[u8], here: (&[u8], &[u16]), there: (&[u8], &[u16])) {
+    let here = reconstructed_here(sheet, here.0, here.1, [here.0.len(); 2]);
+    note(tally, step, label, sheet, &here, &reconstructed_there(sheet, there.0, there.1, [there.0.len(); 2]));
 }
 
 /// The Rust's own extraction on every coefficient of a frame where document 01 demands equality; the joined steps take the exponent field.
@@ -147,7 +181,17 @@ pub fn damaged(g: &mut Rng, body: &[u8]) -> Vec<u8> {
     w
 }
 
-/// One frame through all three calls, with `damages` damaged copies of its body.
+/// A damaged body through the reader, and the levels of what could be read.
+fn compare_damaged(tally: &mut Tally, label: &str, sheet: &[u8], body: &[u8], n: usize) {
+    let (here, there) = (read_here(sheet, body, n), read_there(sheet, body, n));
+    note(tally, "frame: read_body, damaged", label, sheet, &here, &there);
+    if there.answer == 0 {
+        let (here, there) = ((&here.exps[..], &here.codes[..]), (&there.exps[..], &there.codes[..]));
+        note_levels(tally, "frame: reconstruct_body, damaged", label, sheet, here, there);
+    }
+}
+
+/// One frame through all four calls, with `damages` damaged copies of its body.
 pub fn compare(tally: &mut Tally, g: &mut Rng, label: &str, sheet: &[u8], coeffs: &[f32], damages: usize) {
     let n = coeffs.len();
     let there = encoded_there(sheet, coeffs, n, ROOM);
@@ -168,14 +212,16 @@ pub fn compare(tally: &mut Tally, g: &mut Rng, label: &str, sheet: &[u8], coeffs
         &encoded_here(sheet, coeffs, n, room),
         &encoded_there(sheet, coeffs, n, room),
     );
-    let (exps, codes) = (&there.exps, &there.codes);
+    let (exps, codes) = (&there.exps[..], &there.codes[..]);
     note(tally, "frame: write_body", label, sheet, &written_here(sheet, exps, codes, length), &written_there(sheet, exps, codes, length));
-    note(tally, "frame: read_body", label, sheet, &read_here(sheet, body, n), &read_there(sheet, body, n));
+    note_levels(tally, "frame: reconstruct_body", label, sheet, (exps, codes), (exps, codes));
+    let read = read_here(sheet, body, n);
+    note(tally, "frame: read_body", label, sheet, &read, &read_there(sheet, body, n));
+    note_levels(tally, "frame: reconstruct_body, read back", label, sheet, (&read.exps, &read.codes), (exps, codes));
     let cut = &body[..length.saturating_sub(1)];
     note(tally, "frame: read_body, last byte cut", label, sheet, &read_here(sheet, cut, n), &read_there(sheet, cut, n));
     for _ in 0..damages {
-        let w = damaged(g, body);
-        note(tally, "frame: read_body, damaged", label, sheet, &read_here(sheet, &w, n), &read_there(sheet, &w, n));
+        compare_damaged(tally, label, sheet, &damaged(g, body), n);
     }
 }
 
@@ -202,6 +248,7 @@ fn compare_free(tally: &mut Tally, g: &mut Rng, label: &str, s: &m::Sheet) {
     }
     let there = written_there(&sheet, &exps, &codes, ROOM);
     note(tally, "frame: write_body, free codes", label, &sheet, &written_here(&sheet, &exps, &codes, ROOM), &there);
+    note_levels(tally, "frame: reconstruct_body, free codes", label, &sheet, (&exps, &codes), (&exps, &codes));
     if there.answer == 0 {
         let n = exps.len();
         note(tally, "frame: read_body, free codes", label, &sheet, &read_here(&sheet, &there.body, n), &read_there(&sheet, &there.body, n));
@@ -221,6 +268,8 @@ pub fn compare_order(tally: &mut Tally, part: &str, label: &str, s: &m::Sheet, o
     both("encode_body", encoded_here(sheet, coeffs, entries, ROOM), encoded_there(sheet, coeffs, entries, ROOM));
     both("write_body", written_here(sheet, exps, codes, ROOM), written_there(sheet, exps, codes, ROOM));
     both("read_body", read_here(sheet, body, entries), read_there(sheet, body, entries));
+    let lengths = [entries; 2];
+    both("reconstruct_body", reconstructed_here(sheet, exps, codes, lengths), reconstructed_there(sheet, exps, codes, lengths));
     compare_count(tally, part, label, sheet, bap);
     for channel in 0..=s.c() {
         let at = s.at(0, channel.min(s.c() - 1)); // those of the last one for a channel that the sheet has not

@@ -5,6 +5,7 @@ mod entries;
 mod frames;
 mod layouts;
 mod program;
+mod reconstruct;
 mod scan;
 mod short;
 mod spectra;
@@ -14,12 +15,12 @@ mod thresholds;
 use tally::Tally;
 
 const HELP: &str =
-    "differential [COUNT [SEED [PART ..]]]   COUNT random cases a step (1000), seed SEED (1); PART: a step, short, spectra, thresholds
+    "differential [COUNT [SEED [PART ..]]]   COUNT random cases a step (1000), seed SEED (1); PART: a step, short, reconstruct, spectra, thresholds
 differential --frames N [--seed S] [--first I]   N random frames, from number I (0) on
 differential --scan   extraction over every magnitude of an f32, and all bits of what is not finite";
 
-/// How much of document 02 the oracle's model has: it is document 01 with W1 and W2, which changes no answer.
-const REVISION: u8 = 2;
+/// How much of document 02 the oracle's model has: it is document 01 with W1 to W3; W2 changes no answer.
+const REVISION: u8 = 3;
 
 /// The names that `pick_strategy_for_block` of the Rust looks up; document 01 has them unset.
 const SWITCHES: [&str; 4] = ["AC3_EXPSTR_D45_THR", "AC3_EXPSTR_D25_THR", "AC3_DISABLE_D45", "AC3_FORCE_EXPSTR"];
@@ -36,7 +37,8 @@ fn flag(args: &[String], name: &str) -> Option<u64> {
     args.iter().position(|a| a == name).map(|at| number(args.get(at + 1)))
 }
 
-/// The oracle's cases of each step, then short inputs, spectra and thresholds; or the parts that are named.
+/// The oracle's cases of each step, then short inputs, reconstruction, spectra and thresholds; or the parts that are named. `reconstruct` is a
+/// step of the oracle's and a part, and names both.
 fn everything(tally: &mut Tally, args: &[String]) {
     let count = args.first().map_or(1000, |a| number(Some(a)));
     let seed = args.get(1).map_or(1, |a| number(Some(a)));
@@ -47,6 +49,9 @@ fn everything(tally: &mut Tally, args: &[String]) {
     }
     if wanted("short") {
         short::run(tally);
+    }
+    if wanted("reconstruct") {
+        reconstruct::run(tally, count, seed);
     }
     if wanted("spectra") {
         layouts::run(tally, seed);

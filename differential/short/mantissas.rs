@@ -21,13 +21,22 @@ pub fn run(tally: &mut Tally) {
 
 /// Values that every bap is asked at every exponent: zeros, denormals, powers of two and their neighbours, full scale and beyond, and what
 /// is not finite.
-fn edge_coefficients() -> Vec<f32> {
+pub fn edge_coefficients() -> Vec<f32> {
     let mut bits = vec![0u32, 1, 0x007f_ffff, 0x0080_0000, 0x7f7f_ffff];
     for k in -30..=3 {
         let power = 2f32.powi(k).to_bits();
         bits.extend([power - 2, power - 1, power, power + 1, power + 0x40_0000]);
     }
     bits.iter().flat_map(|&b| [b, b | 1 << 31]).chain(NOT_FINITE).map(f32::from_bits).collect()
+}
+
+/// Every place where one code of a bap gives way to the next, and every value of a code, each with its neighbours; the one below 0 is a NaN.
+pub fn round_each_step(bap: u32, exponent: u32) -> impl Iterator<Item = f32> {
+    let levels = m::code_count(bap as u8) as i64;
+    (-levels - 1..=levels + 1).flat_map(move |step| {
+        let x = (step as f64 / levels as f64) as f32 * 2f32.powi(-(exponent as i32));
+        [-1i32, 0, 1].map(|by| f32::from_bits(x.to_bits().wrapping_add(by as u32)))
+    })
 }
 
 fn quantise_one(tally: &mut Tally, x: f32, exponent: u32, bap: u32) {
@@ -49,14 +58,8 @@ fn quantiser(tally: &mut Tally) {
         }
     }
     for bap in 1..=15u32 {
-        let levels = m::code_count(bap as u8) as i64;
         for exponent in [0, 1, 24] {
-            for step in -levels - 1..=levels + 1 {
-                let x = (step as f64 / levels as f64) as f32 * 2f32.powi(-(exponent as i32));
-                for by in [-1i32, 0, 1] {
-                    quantise_one(tally, f32::from_bits(x.to_bits().wrapping_add(by as u32)), exponent, bap);
-                }
-            }
+            round_each_step(bap, exponent).for_each(|x| quantise_one(tally, x, exponent, bap));
         }
     }
 }

@@ -1,7 +1,8 @@
 //! Short inputs, all of them where that is possible, and every value of a field at its edges.
 mod exponents;
 mod fields;
-mod mantissas;
+mod levels;
+pub mod mantissas;
 mod not_finite;
 mod orders;
 mod sheets;
@@ -12,6 +13,7 @@ use crate::tally::Tally;
 pub fn run(tally: &mut Tally) {
     exponents::run(tally);
     fields::run(tally);
+    levels::run(tally);
     mantissas::run(tally);
     not_finite::run(tally);
     orders::run(tally);

@@ -1,6 +1,6 @@
 //! The small result slices of the entries: one of another length than the one named is 10, after 1, 2 and 11, and every buffer stays. The Rust
 //! has no such slices: what is expected is written here, from the list of entries in bindings/c/ac3core.h.
-use crate::cases::FILL;
+use crate::cases::{FILL, FILL_LEVEL};
 use crate::entries;
 use crate::tally::Tally;
 use rust_reference::gen::{self, Wish};
@@ -13,6 +13,7 @@ pub fn run(tally: &mut Tally) {
     for n in WRONG {
         single_results(tally, n);
         bit_counts(tally, n);
+        levels(tally, n);
         frames(tally, n);
     }
 }
@@ -63,6 +64,20 @@ fn bit_counts(tally: &mut Tally, n: usize) {
     expect(tally, "write_mantissa_stream", 10, k, bits == vec![7; n] && out == [FILL; 80]);
     let k = entries::read_mantissa_stream(&[0; 9], &[3; 4], &mut codes, &mut bits);
     expect(tally, "read_mantissa_stream", 10, k, bits == vec![7; n] && codes == [7; 4]);
+}
+
+/// The reconstruction of a bin, which is refused for either slice before its values are looked at; the other one, of the right length, holds 0.
+fn levels(tally: &mut Tally, n: usize) {
+    for (exponent, bap, code) in [(3, 6, 31), (3, 0, 0), (25, 6, 31), (3, 16, 31), (3, 6, 32)] {
+        let (mut has, mut level) = ([FILL], [FILL_LEVEL]);
+        let (mut other_has, mut other_level) = (vec![FILL; n], vec![FILL_LEVEL; n]);
+        let k = entries::reconstruct_mantissa(exponent, bap, code, &mut has, &mut other_level);
+        expect(tally, "reconstruct_mantissa, level", 10, k, has == [0] && other_level == vec![FILL_LEVEL; n]);
+        let k = entries::reconstruct_mantissa(exponent, bap, code, &mut other_has, &mut level);
+        expect(tally, "reconstruct_mantissa, has_level", 10, k, other_has == vec![FILL; n] && level[0].to_bits() == 0);
+        let k = entries::reconstruct_mantissa(exponent, bap, code, &mut other_has, &mut other_level);
+        expect(tally, "reconstruct_mantissa, both", 10, k, other_has == vec![FILL; n] && other_level == vec![FILL_LEVEL; n]);
+    }
 }
 
 /// The calls under a sheet: a good one, one cut short, one with a value out of range, one with its records out of order.
