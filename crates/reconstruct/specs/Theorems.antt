@@ -1,5 +1,6 @@
 -- THE LISTENING COPY (document 02, W3): what a level is, exactly, for all baps by one argument over the number of levels and one over the
--- width; and that the quantiser gives its code back.
+-- width; and that the quantiser gives its code back. `HasValue x s a c` of the library says that x is finite, has the sign s, and is a / c in size;
+-- `num x` / `den x` is the size of x.
 use mathlib.Core.Path.{_≡_, sym, ap, _∙_}
 use Prim.Native.Nat.{ℕ, _+_, _-_, _*_, _^_, _≤_, _<_}
 use native.Mathlib.Decide.{decLe}
