@@ -1,4 +1,5 @@
--- The starred cases of document 01, "Edges", as one list: what the definitions of the calls answer, and what the paper publishes.
+-- The starred cases of document 01, "Edges", as one list: what the definitions of the calls answer, and what the papers publish (document 02, W4,
+-- changes the case with a short last span).
 -- A call's case is its whole answer: the refusal's number beside the value, and the buffer that the call leaves.
 use Prim.Native.Nat.{ℕ}
 use mathlib.Core.Path.{_≡_, refl}
@@ -21,7 +22,9 @@ use Rattle.quantiser.specs.Code.{codeOf}
 use Rattle.quantiser.specs.Code.{quantised as mantissaAnswer}
 use Rattle.shaping.specs.Extract.{extracted}
 use Rattle.shaping.specs.Groups.{groupsAnswer}
-use Rattle.shaping.specs.Passes.{backward, forward, led, d15, least, merged, lacks, lowerSpans, spanned, preprocessRefusal, preprocessed, quantiseRefusal, quantised}
+use Rattle.shaping.specs.D15.{backward, forward, limited}
+use Rattle.shaping.specs.Passes.{preprocessRefusal, preprocessed, quantiseRefusal, quantised}
+use Rattle.shaping.specs.Spans.{least, leasts, spanLeasts, copies, spread, shared, spanned}
 use Rattle.tables.specs.Entry.{entry}
 use Rattle.tables.specs.Masking.{latab}
 use Rattle.tables.specs.Quantizer.{quantizationBits}
@@ -79,7 +82,7 @@ computed =
 abbrev pub published : List (List Case)
 published =
     map (leaves refusal.accepted) ((15 ∷ 17 ∷ 19 ∷ 21 ∷ 23 ∷ 24 ∷ 24 ∷ []) ∷ (2 ∷ 0 ∷ 2 ∷ []) ∷ (15 ∷ []) ∷ [] ∷ [])
-    ∷ map (leaves refusal.accepted) ((6 ∷ 4 ∷ 4 ∷ 2 ∷ 2 ∷ []) ∷ (6 ∷ 6 ∷ 6 ∷ 4 ∷ 4 ∷ 2 ∷ []) ∷ [])
+    ∷ map (leaves refusal.accepted) ((6 ∷ 4 ∷ 4 ∷ 2 ∷ 2 ∷ []) ∷ (6 ∷ 4 ∷ 4 ∷ 2 ∷ 2 ∷ 2 ∷ []) ∷ [])
     ∷ map (λ n. answers (gives n)) (84 ∷ 42 ∷ 21 ∷ 13 ∷ 7 ∷ 4 ∷ [])
     ∷ map (λ n. number (pos n)) (64 ∷ 65 ∷ 3072 ∷ [])
     ∷ map number (negℤ (pos 512) ∷ negℤ (pos 128) ∷ pos 128 ∷ pos 512 ∷ [])
@@ -91,5 +94,5 @@ published =
     ∷ []
 
 pub starred-cases : computed ≡ published
-unfolding preprocessed d15 backward led forward quantised spanned lowerSpans lacks merged least groupsAnswer logadd latab entry delta mantissaAnswer codeOf mul lt ofInt ofBits quantizationBits oneLength coded writeAnswer stream outputOf stored bytesOf bytesFrom bitVal after extracted
+unfolding preprocessed limited backward forward quantised spanned shared spread copies spanLeasts leasts least groupsAnswer logadd latab entry delta mantissaAnswer codeOf mul lt ofInt ofBits quantizationBits oneLength coded writeAnswer stream outputOf stored bytesOf bytesFrom bitVal after extracted
 starred-cases = refl

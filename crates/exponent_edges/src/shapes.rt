@@ -43,9 +43,22 @@ fn starred_spans() {
     quantised(&mut long, 2);
 }
 
+// A short last span after a whole one, of each length: where the Rust raises an exponent.
+fn short_spans() {
+    let mut of_two = [1u8, 3, 3, 0];
+    quantised(&mut of_two, 2);
+    let mut one = [1u8, 3, 3, 3, 3, 0];
+    quantised(&mut one, 4);
+    let mut two = [1u8, 3, 3, 3, 3, 0, 0];
+    quantised(&mut two, 4);
+    let mut three = [1u8, 3, 3, 3, 3, 0, 0, 0];
+    quantised(&mut three, 4);
+}
+
 pub(crate) fn starred() {
     starred_d15();
     starred_spans();
+    short_spans();
 }
 
 // Shaped for D15, then by spans; and by spans at once.

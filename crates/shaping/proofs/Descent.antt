@@ -1,4 +1,4 @@
--- D15 bin after bin: what the two loops leave is `d15`.
+-- D15 bin after bin: what the two loops leave is `limited`.
 use mathlib.Core.Path.{_≡_, refl, sym, ap, ap₂, _∙_}
 use mathlib.Core.List.{List, [], _∷_, _++_, append-nil}
 use Prim.Native.Nat.{ℕ, zero, suc, _+_, _-_, _≤_, _<_, min}
@@ -6,7 +6,7 @@ use native.Mathlib.Omega.{arith}
 use native.Mathlib.Numerals.{sub-one}
 use lib.ListN.{length, take, drop, getD, set}
 use lib.Seq.{take-length, drop-length}
-use Rattle.shaping.specs.Passes.{under, backward, held, forward, first, led, d15}
+use Rattle.shaping.specs.D15.{under, backward, held, forward, first, limited}
 use Rattle.shaping.specs.Reach.{next, descended, ascended}
 
 -- ---- the first loop: the bins before i are as they were, those from i on have passed
@@ -47,7 +47,7 @@ pub ascended-head : (v x w : ℕ) (r : List ℕ) → w ≡ min x (v + 2) → asc
 unfolding ascended
 ascended-head v x w r e = rw e
 
--- ---- both are `d15`
+-- ---- both are `limited`
 
 -- p is at most 2 above the first of a list
 abbrev Under : ℕ → List ℕ → Type 0
@@ -58,13 +58,13 @@ under-capped : (x : ℕ) (b : List ℕ) → min (under x b) 24 ≡ min (min x 24
 under-capped x [] = omega arith
 under-capped x (y ∷ b) = omega arith
 
-first-capped : (x : ℕ) (b : List ℕ) → first x b ≡ min (min (min x 24) (min (next b) 24 + 2)) 15
-first-capped x [] = omega arith
-first-capped x (y ∷ b) = omega arith
+first-capped : (limit x : ℕ) (b : List ℕ) → limit ≤ 24 → first limit x b ≡ min (min (min x 24) (min (next b) 24 + 2)) limit
+first-capped limit x [] m = omega arith
+first-capped limit x (y ∷ b) m = omega arith
 
-first-under : (x : ℕ) (b : List ℕ) → Under (first x b) b
-first-under x [] = tt
-first-under x (y ∷ b) = omega arith
+first-under : (limit x : ℕ) (b : List ℕ) → Under (first limit x b) b
+first-under limit x [] = tt
+first-under limit x (y ∷ b) = omega arith
 
 held-low : (p z : ℕ) → p ≤ z + 2 → held p z ≡ min (min z 24) (p + 2)
 held-low p z h = omega arith
@@ -79,7 +79,7 @@ unfolding descended backward
 next-backward [] = refl
 next-backward (x ∷ r) = rw (next-backward r) (sym (under-capped x (backward r)))
 
-forward-ascends : (p : ℕ) (r : List ℕ) → Under p (backward r) → forward 0 0 p (backward r) ≡ ascended p (descended r)
+forward-ascends : (p : ℕ) (r : List ℕ) → Under p (backward r) → forward p (backward r) ≡ ascended p (descended r)
 unfolding forward ascended descended backward
 forward-ascends p [] u = refl
 forward-ascends p (x ∷ r) u =
@@ -88,10 +88,11 @@ forward-ascends p (x ∷ r) u =
     held-low p z u ∙ ap (λ (n : ℕ). min n (p + 2)) (under-capped x (backward r) ∙ rw (next-backward r) refl) in
     ap₂ (λ (v : ℕ) (l : List ℕ). v ∷ l) e (forward-ascends (held p z) r (held-under p x (backward r) u) ∙ ap (λ (v : ℕ). ascended v (descended r)) e)
 
-pub descended-d15 : (xs : List ℕ) → ascended 13 (descended xs) ≡ d15 xs
-unfolding d15 led descended ascended
-descended-d15 [] = refl
-descended-d15 (x ∷ r) =
-    let f = first x (backward r) in
-    let e : f ≡ min (min (min x 24) (next (descended r) + 2)) 15 = first-capped x (backward r) ∙ rw (next-backward r) refl in
-    sym (ap₂ (λ (v : ℕ) (l : List ℕ). v ∷ l) e (forward-ascends f r (first-under x (backward r)) ∙ ap (λ (v : ℕ). ascended v (descended r)) e))
+pub descended-limited : (limit : ℕ) (xs : List ℕ) → 2 ≤ limit → limit ≤ 24 → ascended (limit - 2) (descended xs) ≡ limited limit xs
+unfolding limited descended ascended
+descended-limited limit [] l m = refl
+descended-limited limit (x ∷ r) l m =
+    let f = first limit x (backward r) in
+    let e : f ≡ min (min (min x 24) (next (descended r) + 2)) limit = first-capped limit x (backward r) m ∙ rw (next-backward r) refl in
+    let k : limit - 2 + 2 ≡ limit = omega (arith, l) in
+    rw k (sym (ap₂ (λ (v : ℕ) (l : List ℕ). v ∷ l) e (forward-ascends f r (first-under limit x (backward r)) ∙ ap (λ (v : ℕ). ascended v (descended r)) e)))

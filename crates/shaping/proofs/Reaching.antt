@@ -1,4 +1,4 @@
--- What each bin allows those around it: the two steps of specs/Reach leave what `d15` leaves.
+-- What each bin allows those around it: the two steps of specs/Reach leave what `limited` leaves.
 use mathlib.Core.Path.{_≡_, refl, sym, _∙_}
 use mathlib.Core.List.{List, [], _∷_}
 use Prim.Native.Nat.{ℕ, zero, suc, _+_, _-_, _*_, _≤_, _<_, min}
@@ -8,11 +8,11 @@ use native.Mathlib.Decide.{decLt}
 use lib.ListN.{length, take, getD, List·getD-eq-default}
 use Rattle.bits.specs.Parts.{tab}
 use Rattle.bits.specs.PartsLaws.{length-tab, getD-tab}
-use Rattle.shaping.specs.Greatest.{Below, Greatest, Follows, Shaped}
+use Rattle.shaping.specs.Greatest.{Below, Greatest, Follows, ShapedFrom}
 use Rattle.shaping.specs.GreatestLaws.{below-at, at-below, below-both}
-use Rattle.shaping.specs.Passes.{d15}
-use Rattle.shaping.specs.PassLaws.{d15-greatest}
-use Rattle.shaping.specs.ShapedLaws.{shaped-at-most}
+use Rattle.shaping.specs.D15.{limited}
+use Rattle.shaping.specs.PassLaws.{limited-greatest}
+use Rattle.shaping.specs.ShapedLaws.{from-at-most}
 use Rattle.shaping.proofs.Padded.{padded-inside, padded-before, padded-behind, length-padded, padded-most}
 use Rattle.shaping.specs.Reach.{toppedAt, topped, padded, nearLeast, farLeast, nearest, farthest}
 
@@ -42,12 +42,12 @@ pair-within p (x ∷ r) s zero (suc d) h =
     (omega arith, omega arith)
 pair-within p (x ∷ r) s (suc i) (suc d) h = rw suc-add (pair-within x r (s .3) i (suc d) (omega arith))
 
-shaped-within : (xs : List ℕ) → Shaped 0 xs → (i j : ℕ) → i < length xs → j < length xs → getD xs i 0 ≤ getD xs j 0 + 2 * dist i j
-shaped-within [] s i j h k = absurd (omega arith)
-shaped-within (x ∷ r) s i j h k = go (decLt i j)
+shaped-within : (limit : ℕ) (xs : List ℕ) → limit ≤ 24 → ShapedFrom limit 0 0 xs → (i j : ℕ) → i < length xs → j < length xs → getD xs i 0 ≤ getD xs j 0 + 2 * dist i j
+shaped-within limit [] b s i j h k = absurd (omega arith)
+shaped-within limit (x ∷ r) b s i j h k = go (decLt i j)
   where
     all : Follows 0 0 x (x ∷ r)
-    all = (omega arith, omega arith, omega arith, s .1)
+    all = (omega arith, omega arith, omega (arith, b, s .0), s .1)
 
     go : Dec (i < j) → getD (x ∷ r) i 0 ≤ getD (x ∷ r) j 0 + 2 * dist i j
     go (yes l) =
@@ -64,10 +64,10 @@ steps-follow p [] a m f = tt
 steps-follow p (x ∷ r) a m f =
     (a (omega arith) .0, a (omega arith) .1, m 0, steps-follow x r (λ h. f 0 (omega arith)) (λ i. m (suc i)) (λ i h. f (suc i) (omega arith)))
 
-steps-shaped : (xs : List ℕ) → getD xs 0 0 ≤ 15 → ((i : ℕ) → getD xs i 0 ≤ 24)
-    → ((i : ℕ) → suc i < length xs → (getD xs (suc i) 0 ≤ getD xs i 0 + 2) × (getD xs i 0 ≤ getD xs (suc i) 0 + 2)) → Shaped 0 xs
-steps-shaped [] a m f = tt
-steps-shaped (x ∷ r) a m f = (a, steps-follow x r (λ h. f 0 (omega arith)) (λ i. m (suc i)) (λ i h. f (suc i) (omega arith)))
+steps-shaped : (limit : ℕ) (xs : List ℕ) → getD xs 0 0 ≤ limit → ((i : ℕ) → getD xs i 0 ≤ 24)
+    → ((i : ℕ) → suc i < length xs → (getD xs (suc i) 0 ≤ getD xs i 0 + 2) × (getD xs i 0 ≤ getD xs (suc i) 0 + 2)) → ShapedFrom limit 0 0 xs
+steps-shaped limit [] a m f = tt
+steps-shaped limit (x ∷ r) a m f = (a, steps-follow x r (λ h. f 0 (omega arith)) (λ i. m (suc i)) (λ i h. f (suc i) (omega arith)))
 
 -- ---- lists under the limits
 
@@ -217,43 +217,43 @@ reach-by ys i j m h k = go (decLt (dist i j) 4) (decLt (dist i j) 8) (decLt (dis
 
 -- ---- so the two steps are D15
 
-topped-at : (xs : List ℕ) (i : ℕ) → i < length xs → getD (topped xs) i 0 ≡ toppedAt xs i
+topped-at : (limit : ℕ) (xs : List ℕ) (i : ℕ) → i < length xs → getD (topped limit xs) i 0 ≡ toppedAt limit xs i
 unfolding topped
-topped-at xs i h = getD-tab (length xs) (toppedAt xs) i h
+topped-at limit xs i h = getD-tab (length xs) (toppedAt limit xs) i h
 
-pub length-topped : (xs : List ℕ) → length (topped xs) ≡ length xs
+pub length-topped : (limit : ℕ) (xs : List ℕ) → length (topped limit xs) ≡ length xs
 unfolding topped
-length-topped xs = length-tab (length xs) (toppedAt xs)
+length-topped limit xs = length-tab (length xs) (toppedAt limit xs)
 
-topped-most : (xs : List ℕ) (i : ℕ) → getD (topped xs) i 0 ≤ 24
-topped-most xs i = go (decLt i (length xs))
+topped-most : (limit : ℕ) (xs : List ℕ) (i : ℕ) → getD (topped limit xs) i 0 ≤ 24
+topped-most limit xs i = go (decLt i (length xs))
   where
-    go : Dec (i < length xs) → getD (topped xs) i 0 ≤ 24
-    go (yes h) = omega (arith, topped-at xs i h)
-    go (no h) = omega (arith, List·getD-eq-default (topped xs) 0 {n = i} (rw (length-topped xs) (omega (arith, h))))
+    go : Dec (i < length xs) → getD (topped limit xs) i 0 ≤ 24
+    go (yes h) = omega (arith, topped-at limit xs i h)
+    go (no h) = omega (arith, List·getD-eq-default (topped limit xs) 0 {n = i} (rw (length-topped limit xs) (omega (arith, h))))
 
 -- what D15 leaves is under the limits
-d15-under : (xs : List ℕ) → Under (d15 xs) (topped xs)
-d15-under xs = record {
-  same = l ∙ sym (length-topped xs);
-  most = shaped-at-most 0 (d15 xs) (g .shaped);
-  within = λ i j h k. shaped-within (d15 xs) (g .shaped) i j (omega (arith, l, length-topped xs, h)) (omega (arith, l, length-topped xs, k));
-  below = λ i h. below-of i (rw (length-topped xs) at h);
+limited-under : (limit : ℕ) (xs : List ℕ) → 15 ≤ limit → limit ≤ 24 → Under (limited limit xs) (topped limit xs)
+limited-under limit xs low high = record {
+  same = l ∙ sym (length-topped limit xs);
+  most = from-at-most limit 0 0 (limited limit xs) high (g .shaped);
+  within = λ i j h k. shaped-within limit (limited limit xs) high (g .shaped) i j (omega (arith, l, length-topped limit xs, h)) (omega (arith, l, length-topped limit xs, k));
+  below = λ i h. below-of i (rw (length-topped limit xs) at h);
 }
   where
-    g : Greatest 0 xs (d15 xs)
-    g = d15-greatest xs
+    g : Greatest limit 0 0 xs (limited limit xs)
+    g = limited-greatest limit xs high
 
-    l : length (d15 xs) ≡ length xs
-    l = below-at (d15 xs) xs (g .below) .0
+    l : length (limited limit xs) ≡ length xs
+    l = below-at (limited limit xs) xs (g .below) .0
 
-    first-most : (zs : List ℕ) → Shaped 0 zs → getD zs 0 0 ≤ 15
+    first-most : (zs : List ℕ) → ShapedFrom limit 0 0 zs → getD zs 0 0 ≤ limit
     first-most [] s = omega arith
     first-most (z ∷ r) s = s .0
 
-    below-of : (i : ℕ) → i < length xs → getD (d15 xs) i 0 ≤ getD (topped xs) i 0
-    below-of zero h = omega (arith, topped-at xs 0 h, below-at (d15 xs) xs (g .below) .1 0, first-most (d15 xs) (g .shaped))
-    below-of (suc i) h = omega (arith, topped-at xs (suc i) h, below-at (d15 xs) xs (g .below) .1 (suc i), shaped-at-most 0 (d15 xs) (g .shaped) (suc i))
+    below-of : (i : ℕ) → i < length xs → getD (limited limit xs) i 0 ≤ getD (topped limit xs) i 0
+    below-of zero h = omega (arith, topped-at limit xs 0 h, below-at (limited limit xs) xs (g .below) .1 0, high, first-most (limited limit xs) (g .shaped))
+    below-of (suc i) h = omega (arith, topped-at limit xs (suc i) h, below-at (limited limit xs) xs (g .below) .1 (suc i), low, from-at-most limit 0 0 (limited limit xs) high (g .shaped) (suc i))
 
 -- the most that a sequence with v in bin i must hold in the others
 cone : ℕ → ℕ → ℕ → List ℕ
@@ -276,8 +276,8 @@ next-dist i k = (omega arith, omega arith)
 lower-by : (v p q a b : ℕ) → a ≡ v - 2 * p → b ≡ v - 2 * q → q ≤ p + 1 → a ≤ b + 2
 lower-by v p q a b e f h = omega arith
 
-cone-shaped : (n v i : ℕ) → 0 < n → v ≤ 24 → v ≤ 15 + 2 * dist i 0 → Shaped 0 (cone n v i)
-cone-shaped n v i h m f = steps-shaped (cone n v i) (omega (arith, cone-at n v i 0 h)) (λ k. most-of k (decLt k n)) step
+cone-shaped : (limit n v i : ℕ) → 0 < n → v ≤ 24 → v ≤ limit + 2 * dist i 0 → ShapedFrom limit 0 0 (cone n v i)
+cone-shaped limit n v i h m f = steps-shaped limit (cone n v i) (omega (arith, cone-at n v i 0 h)) (λ k. most-of k (decLt k n)) step
   where
     most-of : (k : ℕ) → Dec (k < n) → getD (cone n v i) k 0 ≤ 24
     most-of k (yes l) = omega (arith, cone-at n v i k l)
@@ -292,44 +292,44 @@ cone-shaped n v i h m f = steps-shaped (cone n v i) (omega (arith, cone-at n v i
         (lower-by v _ _ _ _ a b (next-dist i k .1), lower-by v _ _ _ _ b a (next-dist i k .0))
 
 -- so no list that keeps to what every bin allows is above what D15 leaves
-under-d15 : (xs : List ℕ) (v i : ℕ) → i < length xs → v ≤ 24 → ((j : ℕ) → j < length xs → v ≤ getD (topped xs) j 0 + 2 * dist i j) → v ≤ getD (d15 xs) i 0
-under-d15 xs v i h m f =
-    let g = d15-greatest xs in
+under-limited : (limit : ℕ) (xs : List ℕ) (v i : ℕ) → limit ≤ 24 → i < length xs → v ≤ 24 → ((j : ℕ) → j < length xs → v ≤ getD (topped limit xs) j 0 + 2 * dist i j) → v ≤ getD (limited limit xs) i 0
+under-limited limit xs v i high h m f =
+    let g = limited-greatest limit xs high in
     let n = length xs in
-    let s : Shaped 0 (cone n v i) = cone-shaped n v i (omega (arith, h)) m (omega (arith, f 0 (omega (arith, h)), topped-at xs 0 (omega (arith, h)))) in
+    let s : ShapedFrom limit 0 0 (cone n v i) = cone-shaped limit n v i (omega (arith, h)) m (omega (arith, f 0 (omega (arith, h)), topped-at limit xs 0 (omega (arith, h)))) in
     let b : Below (cone n v i) xs = at-below (cone n v i) xs (length-cone n v i) (λ j. below-of j (decLt j (length xs))) in
-    omega (arith, cone-at n v i i h, below-at (cone n v i) (d15 xs) (g .most (cone n v i) s b) .1 i)
+    omega (arith, cone-at n v i i h, below-at (cone n v i) (limited limit xs) (g .most (cone n v i) s b) .1 i)
   where
     below-of : (j : ℕ) → Dec (j < length xs) → getD (cone (length xs) v i) j 0 ≤ getD xs j 0
-    below-of j (yes l) = omega (arith, f j l, topped-at xs j l, cone-at (length xs) v i j l)
+    below-of j (yes l) = omega (arith, f j l, topped-at limit xs j l, cone-at (length xs) v i j l)
     below-of j (no l) = omega (arith, cone-past (length xs) v i j (omega (arith, l)))
 
-pub reached : (xs : List ℕ) → farthest (nearest (topped xs)) ≡ d15 xs
-reached xs =
-    below-both r (d15 xs) (at-below r (d15 xs) (n ∙ sym l) (λ i. lower i (decLt i (length xs)))) (at-below (d15 xs) r (l ∙ sym n) (λ i. upper i (decLt i (length xs))))
+pub reached : (limit : ℕ) (xs : List ℕ) → 15 ≤ limit → limit ≤ 24 → farthest (nearest (topped limit xs)) ≡ limited limit xs
+reached limit xs low high =
+    below-both r (limited limit xs) (at-below r (limited limit xs) (n ∙ sym l) (λ i. lower i (decLt i (length xs)))) (at-below (limited limit xs) r (l ∙ sym n) (λ i. upper i (decLt i (length xs))))
   where
     r : List ℕ
-    r = farthest (nearest (topped xs))
+    r = farthest (nearest (topped limit xs))
 
     n : length r ≡ length xs
-    n = length-farthest (nearest (topped xs)) ∙ (length-nearest (topped xs) ∙ length-topped xs)
+    n = length-farthest (nearest (topped limit xs)) ∙ (length-nearest (topped limit xs) ∙ length-topped limit xs)
 
-    u : Under (d15 xs) r
-    u = under-farthest (d15 xs) (nearest (topped xs)) (under-nearest (d15 xs) (topped xs) (d15-under xs))
+    u : Under (limited limit xs) r
+    u = under-farthest (limited limit xs) (nearest (topped limit xs)) (under-nearest (limited limit xs) (topped limit xs) (limited-under limit xs low high))
 
-    l : length (d15 xs) ≡ length xs
+    l : length (limited limit xs) ≡ length xs
     l = u .same ∙ n
 
-    by : (i j : ℕ) → i < length xs → j < length xs → getD r i 0 ≤ getD (topped xs) j 0 + 2 * dist i j
-    by i j h k = reach-by (topped xs) i j (topped-most xs) (rw (length-topped xs) h) (rw (length-topped xs) k)
+    by : (i j : ℕ) → i < length xs → j < length xs → getD r i 0 ≤ getD (topped limit xs) j 0 + 2 * dist i j
+    by i j h k = reach-by (topped limit xs) i j (topped-most limit xs) (rw (length-topped limit xs) h) (rw (length-topped limit xs) k)
 
-    lower : (i : ℕ) → Dec (i < length xs) → getD r i 0 ≤ getD (d15 xs) i 0
-    lower i (yes h) = under-d15 xs (getD r i 0) i h (omega (arith, by i i h h, topped-most xs i)) (λ j k. by i j h k)
+    lower : (i : ℕ) → Dec (i < length xs) → getD r i 0 ≤ getD (limited limit xs) i 0
+    lower i (yes h) = under-limited limit xs (getD r i 0) i high h (omega (arith, by i i h h, topped-most limit xs i)) (λ j k. by i j h k)
     lower i (no h) = omega (arith, List·getD-eq-default r 0 {n = i} (rw n (omega (arith, h))))
 
-    upper : (i : ℕ) → Dec (i < length xs) → getD (d15 xs) i 0 ≤ getD r i 0
+    upper : (i : ℕ) → Dec (i < length xs) → getD (limited limit xs) i 0 ≤ getD r i 0
     upper i (yes h) = u .below i (rw n h)
-    upper i (no h) = omega (arith, List·getD-eq-default (d15 xs) 0 {n = i} (rw l (omega (arith, h))))
+    upper i (no h) = omega (arith, List·getD-eq-default (limited limit xs) 0 {n = i} (rw l (omega (arith, h))))
 
 -- ---- the code's buffers
 
@@ -340,37 +340,37 @@ nearest-most ys m i = go (decLt i (length ys))
     go (yes h) = omega (arith, m i, nearest-by ys i i h h (omega arith))
     go (no h) = omega (arith, List·getD-eq-default (nearest ys) 0 {n = i} (rw (length-nearest ys) (omega (arith, h))))
 
-module _ (xs tops near : List ℕ) (a b : ℕ) (e : a ≡ 6 + length xs) (f : b ≡ 16 + length xs) (t : take (6 + length xs) tops ≡ padded 3 (topped xs)) where
-  tops-part : take a tops ≡ padded 3 (topped xs)
+module _ (limit : ℕ) (low : 15 ≤ limit) (high : limit ≤ 24) (xs tops near : List ℕ) (a b : ℕ) (e : a ≡ 6 + length xs) (f : b ≡ 16 + length xs) (t : take (6 + length xs) tops ≡ padded 3 (topped limit xs)) where
+  tops-part : take a tops ≡ padded 3 (topped limit xs)
   tops-part = rw e t
 
   tops-length : length (take a tops) ≡ 6 + length xs
-  tops-length = rw (tops-part, length-padded 3 (topped xs), length-topped xs) (omega arith)
+  tops-length = rw (tops-part, length-padded 3 (topped limit xs), length-topped limit xs) (omega arith)
 
   pub tops-long : (6 ≤ length (take a tops)) × (length (take a tops) ≡ 6 + length xs)
   tops-long = (omega (arith, tops-length), tops-length)
 
   pub tops-most : (k : ℕ) → getD (take a tops) k 0 ≤ 24
-  tops-most k = rw tops-part (padded-most 3 (topped xs) (topped-most xs) k)
+  tops-most k = rw tops-part (padded-most 3 (topped limit xs) (topped-most limit xs) k)
 
   module _ (q : take (10 + length (take a tops)) near ≡ padded 8 (tab (length (take a tops) - 6) (nearLeast (take a tops)))) where
-    near-part : take b near ≡ padded 8 (nearest (topped xs))
+    near-part : take b near ≡ padded 8 (nearest (topped limit xs))
     near-part =
         let g : 10 + length (take a tops) ≡ b = omega (arith, tops-length) in
-        let h : length (take a tops) - 6 ≡ length (topped xs) = omega (arith, tops-length, length-topped xs) in
+        let h : length (take a tops) - 6 ≡ length (topped limit xs) = omega (arith, tops-length, length-topped limit xs) in
         (rw (g, h, tops-part) at q) ∙ near-is
       where
-        near-is : padded 8 (tab (length (topped xs)) (nearLeast (padded 3 (topped xs)))) ≡ padded 8 (nearest (topped xs))
+        near-is : padded 8 (tab (length (topped limit xs)) (nearLeast (padded 3 (topped limit xs)))) ≡ padded 8 (nearest (topped limit xs))
         near-is = unfold nearest in refl
 
     pub near-length : length (take b near) ≡ length xs + 16
-    near-length = rw (near-part, length-padded 8 (nearest (topped xs)), length-nearest (topped xs), length-topped xs) (omega arith)
+    near-length = rw (near-part, length-padded 8 (nearest (topped limit xs)), length-nearest (topped limit xs), length-topped limit xs) (omega arith)
 
     pub near-most : (k : ℕ) → getD (take b near) k 0 ≤ 24
-    near-most k = rw near-part (padded-most 8 (nearest (topped xs)) (nearest-most (topped xs) (topped-most xs)) k)
+    near-most k = rw near-part (padded-most 8 (nearest (topped limit xs)) (nearest-most (topped limit xs) (topped-most limit xs)) k)
 
-    pub reached-all : (zs : List ℕ) → zs ≡ tab (length xs) (farLeast (take b near)) → zs ≡ d15 xs
-    reached-all zs w = (rw (near-part, ← length-topped xs, ← length-nearest (topped xs)) at w) ∙ (far-is ∙ reached xs)
+    pub reached-all : (zs : List ℕ) → zs ≡ tab (length xs) (farLeast (take b near)) → zs ≡ limited limit xs
+    reached-all zs w = (rw (near-part, ← length-topped limit xs, ← length-nearest (topped limit xs)) at w) ∙ (far-is ∙ reached limit xs low high)
       where
-        far-is : tab (length (nearest (topped xs))) (farLeast (padded 8 (nearest (topped xs)))) ≡ farthest (nearest (topped xs))
+        far-is : tab (length (nearest (topped limit xs))) (farLeast (padded 8 (nearest (topped limit xs)))) ≡ farthest (nearest (topped limit xs))
         far-is = unfold farthest in refl

@@ -6,7 +6,8 @@ use native.Mathlib.Omega.{arith}
 use native.Mathlib.Numerals.{add-one, sub-one}
 use lib.ListN.{length, take, drop, getD, set, drop-of-length-le}
 use lib.Seq.{drop-cons}
-use Rattle.shaping.specs.Passes.{held, forward, least, merged}
+use Rattle.shaping.specs.Spans.{least}
+use Rattle.shaping.specs.Strategies.{merged}
 
 store : (f : List ℕ → List ℕ) (e l : List ℕ) (i v : ℕ) → i < length e → l ≡ v ∷ f (drop (suc i) e)
     → take (suc i) (set e i v) ++ f (drop (suc i) (set e i v)) ≡ take i e ++ l
@@ -29,18 +30,7 @@ sweep-done f e g i q z h = sym (all e i h) ∙ q
     all (x ∷ e) zero h = absurd (omega arith)
     all (x ∷ e) (suc i) h = ap (λ (t : List ℕ). x ∷ t) (all e i (omega arith))
 
--- ---- the forward pass: a span starts, or goes on
-
-pub forward-head : (h j v x v′ j′ : ℕ) (r : List ℕ) → j ≡ 0 → j′ ≡ h → v′ ≡ held v x → forward h j v (x ∷ r) ≡ v′ ∷ forward h j′ v′ r
-unfolding forward
-forward-head h j v x v′ j′ r p q w = rw (p, q, w)
-
-pub forward-same : (h j v x v′ j′ : ℕ) (r : List ℕ) → (j ≡ 0 → ⊥) → j′ ≡ j - 1 → v′ ≡ v → forward h j v (x ∷ r) ≡ v′ ∷ forward h j′ v′ r
-unfolding forward
-forward-same h zero v x v′ j′ r p q w = absurd (p refl)
-forward-same h (suc j) v x v′ j′ r p q w = rw (q, w, sub-one)
-
--- ---- pass 1
+-- ---- each span becomes its least: a span starts, or goes on
 
 pub merged-head : (h j v x v′ j′ : ℕ) (r : List ℕ) → j ≡ 0 → j′ ≡ h → v′ ≡ least h x r → merged h j v (x ∷ r) ≡ v′ ∷ merged h j′ v′ r
 unfolding merged

@@ -1,4 +1,5 @@
--- The starred cases of document 01, "Edges", that are exponents': the definitions compute them.
+-- The starred cases of document 01, "Edges", that are exponents', the one that document 02, W4, changes among them, and the smallest inputs where
+-- W4 ends equality with the Rust: the definitions compute them.
 use mathlib.Core.Path.{_≡_, refl}
 use mathlib.Core.Bool.{false}
 use mathlib.Core.List.{[], _∷_, map}
@@ -8,19 +9,36 @@ use Rattle.bits.specs.Answer.{gives, turnedBack}
 use Rattle.bits.specs.Refusal as refusal
 use Rattle.shaping.specs.Extract.{extracted}
 use Rattle.shaping.specs.Groups.{groupsAnswer}
-use Rattle.shaping.specs.Passes.{backward, forward, led, d15, least, merged, lacks, lowerSpans, spanned, preprocessed, quantised}
+use Rattle.shaping.specs.D15.{backward, forward, limited}
+use Rattle.shaping.specs.Spans.{least, leasts, spanLeasts, copies, spread, shared, spanned}
+use Rattle.shaping.specs.Passes.{preprocessed, quantised}
+use Rattle.shaping.specs.Strategies.{merged}
+use Rattle.shaping.specs.RustSpans.{lacks, lowerSpans, forwardSpans, led, rustSpanned}
 
 -- 24 seven times; 9, 0, 9; 20 alone; empty
 pub d15-shapes : map preprocessed ((24 ∷ 24 ∷ 24 ∷ 24 ∷ 24 ∷ 24 ∷ 24 ∷ []) ∷ (9 ∷ 0 ∷ 9 ∷ []) ∷ (20 ∷ []) ∷ [] ∷ [])
     ≡ (15 ∷ 17 ∷ 19 ∷ 21 ∷ 23 ∷ 24 ∷ 24 ∷ []) ∷ (2 ∷ 0 ∷ 2 ∷ []) ∷ (15 ∷ []) ∷ [] ∷ []
-unfolding preprocessed d15 backward led forward
+unfolding preprocessed limited backward forward
 d15-shapes = refl
 
 -- span 2: whole spans, and a short last span
 pub d25-shares : map (quantised 2) ((6 ∷ 6 ∷ 6 ∷ 4 ∷ 2 ∷ []) ∷ (6 ∷ 6 ∷ 6 ∷ 4 ∷ 2 ∷ 2 ∷ []) ∷ [])
-    ≡ (6 ∷ 4 ∷ 4 ∷ 2 ∷ 2 ∷ []) ∷ (6 ∷ 6 ∷ 6 ∷ 4 ∷ 4 ∷ 2 ∷ []) ∷ []
-unfolding quantised spanned led forward lowerSpans lacks merged least
+    ≡ (6 ∷ 4 ∷ 4 ∷ 2 ∷ 2 ∷ []) ∷ (6 ∷ 4 ∷ 4 ∷ 2 ∷ 2 ∷ 2 ∷ []) ∷ []
+unfolding quantised spanned shared spread copies limited backward forward spanLeasts leasts least
 d25-shares = refl
+
+-- a short last span after a whole one: one bin of two; one, two, three bins of four. The Rust raises the last span
+pub short-lasts : (map (quantised 2) ((1 ∷ 3 ∷ 3 ∷ 0 ∷ []) ∷ []) ≡ (1 ∷ 2 ∷ 2 ∷ 0 ∷ []) ∷ [])
+    × (map (quantised 4) ((1 ∷ 3 ∷ 3 ∷ 3 ∷ 3 ∷ 0 ∷ []) ∷ (1 ∷ 3 ∷ 3 ∷ 3 ∷ 3 ∷ 0 ∷ 0 ∷ []) ∷ (1 ∷ 3 ∷ 3 ∷ 3 ∷ 3 ∷ 0 ∷ 0 ∷ 0 ∷ []) ∷ [])
+    ≡ (1 ∷ 2 ∷ 2 ∷ 2 ∷ 2 ∷ 0 ∷ []) ∷ (1 ∷ 2 ∷ 2 ∷ 2 ∷ 2 ∷ 0 ∷ 0 ∷ []) ∷ (1 ∷ 2 ∷ 2 ∷ 2 ∷ 2 ∷ 0 ∷ 0 ∷ 0 ∷ []) ∷ [])
+unfolding quantised spanned shared spread copies limited backward forward spanLeasts leasts least
+short-lasts = (refl, refl)
+
+pub short-lasts-of-the-rust : (map (rustSpanned 1) ((1 ∷ 3 ∷ 3 ∷ 0 ∷ []) ∷ (6 ∷ 6 ∷ 6 ∷ 4 ∷ 2 ∷ 2 ∷ []) ∷ []) ≡ (1 ∷ 3 ∷ 3 ∷ 1 ∷ []) ∷ (6 ∷ 6 ∷ 6 ∷ 4 ∷ 4 ∷ 2 ∷ []) ∷ [])
+    × (map (rustSpanned 3) ((1 ∷ 3 ∷ 3 ∷ 3 ∷ 3 ∷ 0 ∷ []) ∷ (1 ∷ 3 ∷ 3 ∷ 3 ∷ 3 ∷ 0 ∷ 0 ∷ []) ∷ (1 ∷ 3 ∷ 3 ∷ 3 ∷ 3 ∷ 0 ∷ 0 ∷ 0 ∷ []) ∷ [])
+    ≡ (1 ∷ 3 ∷ 3 ∷ 3 ∷ 3 ∷ 1 ∷ []) ∷ (1 ∷ 3 ∷ 3 ∷ 3 ∷ 3 ∷ 1 ∷ 1 ∷ []) ∷ (1 ∷ 3 ∷ 3 ∷ 3 ∷ 3 ∷ 1 ∷ 1 ∷ 1 ∷ []) ∷ [])
+unfolding rustSpanned led forwardSpans lowerSpans lacks merged least
+short-lasts-of-the-rust = (refl, refl)
 
 -- D15, D25 and D45 at the ends 253 and 40
 pub groups-at-ends : (map (groupsAnswer 253) (1 ∷ 2 ∷ 4 ∷ []) ≡ gives 84 ∷ gives 42 ∷ gives 21 ∷ [])

@@ -1,141 +1,96 @@
--- The forward pass leaves what is shaped; and if the pass before it does its part, what it leaves is the greatest. So for D15, for any bytes and any length.
-use mathlib.Core.Path.{_≡_, refl}
+-- D15 shaping leaves the greatest, for any bytes, any length and any limit of the first bin up to 24.
+use mathlib.Core.Path.{_≡_, refl, ap, _∙_}
 use mathlib.Core.List.{List, [], _∷_}
-use Prim.Native.Nat.{ℕ, zero, suc, _+_, _≤_}
+use Prim.Native.Nat.{ℕ, _+_, _≤_}
 use native.Mathlib.Omega.{arith}
 use lib.ListN.{length}
-use Rattle.shaping.specs.Greatest.{Below, Greatest, Follows, Shaped}
+use Rattle.shaping.specs.Greatest.{Below, Greatest, Follows, ShapedFrom}
 use Rattle.shaping.specs.GreatestLaws.{below-trans}
-use Rattle.shaping.specs.Passes.{under, backward, held, forward, first, led, d15, lowerSpans, merged, spanned}
+use Rattle.shaping.specs.D15.{under, backward, held, forward, first, limited}
 
--- ---- the forward pass
+-- ---- the backward pass
 
-forward-follows : (h j p : ℕ) (xs : List ℕ) → p ≤ 24 → Follows h j p (forward h j p xs)
-unfolding forward
-forward-follows h j p [] k = tt
-forward-follows h zero p (x ∷ xs) k = (omega arith, omega arith, omega arith, forward-follows h h (held p x) xs (omega arith))
-forward-follows h (suc j) p (x ∷ xs) k = (refl, forward-follows h j p xs k)
-
--- it stays above all that follows the same rule and is not above what it passes over
-forward-above : (h j q p : ℕ) (ys xs : List ℕ) → q ≤ p → Follows h j q ys → Below ys xs → Below ys (forward h j p xs)
-unfolding forward
-forward-above h j q p [] [] k s b = tt
-forward-above h j q p [] (x ∷ xs) k s b = absurd b
-forward-above h j q p (y ∷ ys) [] k s b = b
-forward-above h zero q p (y ∷ ys) (x ∷ xs) k s b = (omega arith, forward-above h h y (held p x) ys xs (omega arith) (s .3) (b .1))
-forward-above h (suc j) q p (y ∷ ys) (x ∷ xs) k s b = (omega arith, forward-above h j q p ys xs k (s .1) (b .1))
-
--- constant on spans and at most 2 above the next span, after p, of whose span j bins are still to come
-abbrev pub Steep : ℕ → ℕ → ℕ → List ℕ → Type 0
-Steep h j p [] = Unit {0}
-Steep h zero p (x ∷ r) = (p ≤ x + 2) × Steep h h x r
-Steep h (suc j) p (x ∷ r) = (x ≡ p) × Steep h j p r
-
--- where that holds, it raises nothing
-forward-below : (h j p q : ℕ) (xs : List ℕ) → p ≤ q → Steep h j q xs → Below (forward h j p xs) xs
-unfolding forward
-forward-below h j p q [] k s = tt
-forward-below h zero p q (x ∷ xs) k s = (omega arith, forward-below h h (held p x) x xs (omega arith) (s .1))
-forward-below h (suc j) p q (x ∷ xs) k s = (omega arith, forward-below h j p q xs k (s .1))
-
--- ---- bin 0 and the forward pass
-
-pub led-shaped : (h : ℕ) (xs : List ℕ) → Shaped h (led h xs)
-unfolding led
-led-shaped h [] = tt
-led-shaped h (x ∷ []) = (omega arith, forward-follows h 0 (first x []) [] (omega arith))
-led-shaped h (x ∷ y ∷ r) = (omega arith, forward-follows h 0 (first x (y ∷ r)) (y ∷ r) (omega arith))
-
--- the same from the first bin on
-abbrev pub Runs : ℕ → List ℕ → Type 0
-Runs h [] = Unit {0}
-Runs h (x ∷ r) = Steep h h x r
-
--- what the passes before it have to do to the bins from bin 1 on, from t to b
-pub record Lowers (h : ℕ) (t b : List ℕ) : Type 0 where
-  pub low : Below b t
-  pub runs : Runs h b
-  pub high : (p : ℕ) (ys : List ℕ) → Follows h 0 p ys → Below ys t → Below ys b
-
-led-below : (h x : ℕ) (t b : List ℕ) → Below b t → Runs h b → Below (led h (x ∷ b)) (x ∷ t)
-unfolding led
-led-below h x t [] l s = (omega arith, below-trans (forward h 0 (first x []) []) [] t (forward-below h 0 (first x []) (first x []) [] (omega arith) tt) l)
-led-below h x t (y ∷ b) l s =
-    let k : Below (forward h 0 (first x (y ∷ b)) (y ∷ b)) (y ∷ b) =
-    forward-below h 0 (first x (y ∷ b)) (first x (y ∷ b)) (y ∷ b) (omega arith) (omega arith, s) in
-    (omega arith, below-trans (forward h 0 (first x (y ∷ b)) (y ∷ b)) (y ∷ b) t k l)
-
-first-above : (h y x : ℕ) (ys b : List ℕ) → y ≤ 15 → y ≤ x → Follows h 0 y ys → Below ys b → y ≤ first x b
-first-above h y x [] [] l q s k = omega arith
-first-above h y x [] (w ∷ b) l q s k = absurd k
-first-above h y x (u ∷ us) [] l q s k = absurd k
-first-above h y x (u ∷ us) (w ∷ b) l q s k = omega arith
-
-led-above : (h y x : ℕ) (ys b : List ℕ) → Shaped h (y ∷ ys) → y ≤ x → Below ys b → Below (y ∷ ys) (led h (x ∷ b))
-unfolding led
-led-above h y x ys b s q k =
-    let f : y ≤ first x b = first-above h y x ys b (s .0) q (s .1) k in
-    (f, forward-above h 0 y (first x b) ys b f (s .1) k)
-
-pub led-greatest : (h x : ℕ) (t b : List ℕ) → Lowers h t b → Greatest h (x ∷ t) (led h (x ∷ b))
-led-greatest h x t b f = record {
-  shaped = led-shaped h (x ∷ b);
-  below = led-below h x t b (f .low) (f .runs);
-  most = λ ys. most-of ys;
-}
-  where
-    most-of : (ys : List ℕ) → Shaped h ys → Below ys (x ∷ t) → Below ys (led h (x ∷ b))
-    most-of [] s k = absurd k
-    most-of (y ∷ ys) s k = led-above h y x ys b s (k .0) (f .high y ys (s .1) (k .1))
-
--- ---- D15
-
-pub backward-below : (xs : List ℕ) → Below (backward xs) xs
+backward-below : (xs : List ℕ) → Below (backward xs) xs
 unfolding backward
 backward-below [] = tt
 backward-below (x ∷ []) = (omega arith, tt)
 backward-below (x ∷ y ∷ r) = (omega arith, backward-below (y ∷ r))
 
-pub backward-steep : (x : ℕ) (xs : List ℕ) → Steep 0 0 (under x (backward xs)) (backward xs)
-unfolding backward
-backward-steep x [] = tt
-backward-steep x (y ∷ r) = (omega arith, backward-steep y r)
+-- each at most 2 above the next, after p
+abbrev Steep : ℕ → List ℕ → Type 0
+Steep p [] = Unit {0}
+Steep p (x ∷ r) = (p ≤ x + 2) × Steep x r
 
-backward-runs : (xs : List ℕ) → Runs 0 (backward xs)
+backward-steep : (p : ℕ) (xs : List ℕ) → p ≤ under p (backward xs) → Steep p (backward xs)
 unfolding backward
-backward-runs [] = tt
-backward-runs (x ∷ r) = backward-steep x r
+backward-steep p [] k = tt
+backward-steep p (x ∷ []) k = (omega arith, tt)
+backward-steep p (x ∷ y ∷ r) k = (omega arith, backward-steep (under x (backward (y ∷ r))) (y ∷ r) (omega arith))
 
 backward-above : (p : ℕ) (ys xs : List ℕ) → Follows 0 0 p ys → Below ys xs → Below ys (backward xs)
 unfolding backward
 backward-above p [] [] s b = tt
 backward-above p [] (x ∷ xs) s b = absurd b
 backward-above p (y ∷ ys) [] s b = absurd b
-backward-above p (y ∷ []) (x ∷ []) s b = b
+backward-above p (y ∷ []) (x ∷ []) s b = (omega arith, tt)
 backward-above p (y ∷ []) (x ∷ x₂ ∷ xs) s b = absurd (b .1)
 backward-above p (y ∷ y₂ ∷ ys) (x ∷ []) s b = absurd (b .1)
 backward-above p (y ∷ y₂ ∷ ys) (x ∷ x₂ ∷ xs) s b =
     let i : Below (y₂ ∷ ys) (backward (x₂ ∷ xs)) = backward-above y (y₂ ∷ ys) (x₂ ∷ xs) (s .3) (b .1) in
     (omega arith, i)
 
-pub d15-greatest : (xs : List ℕ) → Greatest 0 xs (d15 xs)
-unfolding d15
-d15-greatest [] = record { shaped = tt; below = tt; most = λ ys s b. b }
-d15-greatest (x ∷ r) =
-    led-greatest 0 x r (backward r) (record { low = backward-below r; runs = backward-runs r; high = λ p ys s b. backward-above p ys r s b })
+-- ---- the forward pass
 
--- ---- spans: shaped, also where the last span is short
+forward-follows : (p : ℕ) (xs : List ℕ) → p ≤ 24 → Follows 0 0 p (forward p xs)
+unfolding forward
+forward-follows p [] k = tt
+forward-follows p (x ∷ xs) k = (omega arith, omega arith, omega arith, forward-follows (held p x) xs (omega arith))
 
-pub spanned-shaped : (h : ℕ) (xs : List ℕ) → 2 ≤ length xs → Shaped (suc h) (spanned (suc h) xs)
-unfolding spanned
-spanned-shaped h [] l = absurd (omega arith)
-spanned-shaped h (x ∷ []) l = absurd (omega arith)
-spanned-shaped h (x ∷ y ∷ r) l = led-shaped (suc h) (x ∷ lowerSpans (suc h) (merged (suc h) 0 0 (y ∷ r)))
+-- it stays above all that follows the same rule and is not above what it passes over
+forward-above : (q p : ℕ) (ys xs : List ℕ) → q ≤ p → Follows 0 0 q ys → Below ys xs → Below ys (forward p xs)
+unfolding forward
+forward-above q p [] [] k s b = tt
+forward-above q p [] (x ∷ xs) k s b = absurd b
+forward-above q p (y ∷ ys) [] k s b = b
+forward-above q p (y ∷ ys) (x ∷ xs) k s b = (omega arith, forward-above y (held p x) ys xs (omega arith) (s .3) (b .1))
 
--- where D15 shaped the exponents before, any length and any span: one bin alone is at most 15 then
-pub spanned-after : (h : ℕ) (xs : List ℕ) → Shaped 0 xs → Shaped h (spanned h xs)
-unfolding spanned
-spanned-after zero xs s = s
-spanned-after (suc h) [] s = tt
-spanned-after (suc h) (x ∷ []) s = (s .0, tt)
-spanned-after (suc h) (x ∷ y ∷ r) s = led-shaped (suc h) (x ∷ lowerSpans (suc h) (merged (suc h) 0 0 (y ∷ r)))
+-- after the backward pass it raises nothing
+forward-below : (p q : ℕ) (xs : List ℕ) → p ≤ q → Steep q xs → Below (forward p xs) xs
+unfolding forward
+forward-below p q [] k s = tt
+forward-below p q (x ∷ xs) k s = (omega arith, forward-below (held p x) x xs (omega arith) (s .1))
+
+-- ---- the first bin and both passes
+
+first-below : (limit x : ℕ) (b : List ℕ) → (first limit x b ≤ x) × (first limit x b ≤ limit)
+first-below limit x [] = (omega arith, omega arith)
+first-below limit x (y ∷ b) = (omega arith, omega arith)
+
+first-under : (limit x : ℕ) (b : List ℕ) → limit ≤ 24 → first limit x b ≤ under (first limit x b) b
+first-under limit x [] k = omega arith
+first-under limit x (y ∷ b) k = omega arith
+
+first-above : (limit y x : ℕ) (ys b : List ℕ) → y ≤ limit → y ≤ x → Follows 0 0 y ys → Below ys b → y ≤ first limit x b
+first-above limit y x [] [] l q s k = omega arith
+first-above limit y x [] (w ∷ b) l q s k = absurd k
+first-above limit y x (u ∷ us) [] l q s k = absurd k
+first-above limit y x (u ∷ us) (w ∷ b) l q s k = omega arith
+
+pub limited-greatest : (limit : ℕ) (xs : List ℕ) → limit ≤ 24 → Greatest limit 0 0 xs (limited limit xs)
+limited-greatest limit [] l = unfold limited in record { shaped = tt; below = tt; most = λ ys s b. b }
+limited-greatest limit (x ∷ r) l =
+    unfold limited in (record {
+      shaped = (first-below limit x (backward r) .1, forward-follows p (backward r) (omega (arith, l, first-below limit x (backward r))));
+      below = (first-below limit x (backward r) .0, below-trans (forward p (backward r)) (backward r) r (forward-below p p (backward r) (omega arith) (backward-steep p r (first-under limit x (backward r) l))) (backward-below r));
+      most = λ ys. most-of ys;
+    })
+  where
+    p : ℕ
+    p = first limit x (backward r)
+
+    most-of : (ys : List ℕ) → ShapedFrom limit 0 0 ys → Below ys (x ∷ r) → Below ys (p ∷ forward p (backward r))
+    most-of [] s k = absurd k
+    most-of (y ∷ ys) s k =
+        let b : Below ys (backward r) = backward-above y ys r (s .1) (k .1) in
+        let f : y ≤ p = first-above limit y x ys (backward r) (s .0) (k .0) (s .1) b in
+        (f, forward-above y p ys (backward r) f (s .1) b)

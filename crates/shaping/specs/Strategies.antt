@@ -1,14 +1,14 @@
 -- Which strategy a block's exponents are given, and the strategies of a frame (document 01, `pick_strategy_for_block`, `select_exp_strategies_per_end`).
 use mathlib.Core.Bool.{Bool, true, not, cond, _&&_}
 use mathlib.Core.List.{List, [], _∷_}
-use Prim.Native.Nat.{ℕ, _+_, _-_, _*_, _/_}
+use Prim.Native.Nat.{ℕ, zero, suc, _+_, _-_, _*_, _/_}
 use lib.Dec.{eqb, leb, ltb}
 use lib.ListN.{length, take, drop, getD, replicate}
 use Rattle.bits.specs.Answer.{gives, turnedBack}
 use Rattle.bits.specs.Parts.{tab, piece}
 use Rattle.bits.specs.Refusal as refusal
 use Rattle.bits.specs.declared.answer.Answer.{Answer}
-use Rattle.shaping.specs.Passes.{merged}
+use Rattle.shaping.specs.Spans.{least}
 
 -- ---- one block: "any bytes; integer division; at most 50 gives 3, else at most 75 gives 2, else 1; end up to 1 gives 1"
 
@@ -17,6 +17,12 @@ unfoldable pub lost : List ℕ → List ℕ → ℕ
 lost [] ys = 0
 lost (x ∷ xs) [] = 0
 lost (x ∷ xs) (y ∷ ys) = (x - y) + lost xs ys
+
+-- each span becomes its least; after a bin that became v, of whose span j bins are still to come
+unfoldable pub merged : ℕ → ℕ → ℕ → List ℕ → List ℕ
+merged h j v [] = []
+merged h zero v (x ∷ r) = least h x r ∷ merged h h (least h x r) r
+merged h (suc j) v (x ∷ r) = v ∷ merged h j v r
 
 -- the cost of a strategy whose span is h + 1: how far the bins from bin 1 on go down where each span becomes its least
 unfoldable pub cost : ℕ → List ℕ → ℕ

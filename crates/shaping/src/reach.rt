@@ -4,16 +4,17 @@ ghost use mathlib.Core.Path.{_≡_};
 ghost use Prim.Native.Nat.{ℕ, _+_, _-_, _<_, _≤_, min};
 ghost use lib.ListN.{length, getD, take};
 ghost use Rattle.bits.specs.Parts.{tab};
-ghost use Rattle.shaping.specs.Passes.{d15};
+ghost use Rattle.shaping.specs.D15.{limited};
 ghost use Rattle.shaping.specs.Reach.{topped, free, padded, nearLeast, farLeast};
 use crate::passes::smaller;
 
-// None above what its bin may hold: 15 in bin 0, 24 in the others.
-fn hold_tops(exp: &[u8], to: &mut [u8])
+// None above what its bin may hold: its limit in the first, 24 in the others.
+fn hold_tops(exp: &[u8], limit: u8, to: &mut [u8])
     requires { ⌜ (0 < length (now exp)) × (length (now to) ≡ length (now exp)) ⌝ }
-    ensures { λ _. ⌜ now (to .exit) ≡ topped (now (exp .entry)) ⌝ }
+    requires { ⌜ (15 ≤ limit) × (limit ≤ 24) ⌝ }
+    ensures { λ _. ⌜ now (to .exit) ≡ topped limit (now (exp .entry)) ⌝ }
 {
-    to[0] = smaller(exp[0], 15);
+    to[0] = smaller(exp[0], limit);
     let mut i = 1;
     while i < to.len() {
         to[i] = smaller(exp[i], 24);
@@ -75,13 +76,14 @@ fn reach_far(from: &[u8], to: &mut [u8])
 }
 
 // The exponents among three bins on either side that allow any exponent.
-fn pad_tops(exp: &[u8], tops: &mut [u8])
+fn pad_tops(exp: &[u8], limit: u8, tops: &mut [u8])
+    requires { ⌜ (15 ≤ limit) × (limit ≤ 24) ⌝ }
     requires { ⌜ (0 < length (now exp)) × (length (now exp) ≤ 256) ⌝ }
     requires { ⌜ (length (now tops) ≡ 262) × (now tops ≡ free 262) ⌝ }
-    ensures { λ _. ⌜ take (6 + length (now (exp .entry))) (now (tops .exit)) ≡ padded 3 (topped (now (exp .entry))) ⌝ }
+    ensures { λ _. ⌜ take (6 + length (now (exp .entry))) (now (tops .exit)) ≡ padded 3 (topped limit (now (exp .entry))) ⌝ }
 {
     let end = 3 + exp.len();
-    hold_tops(exp, &mut tops[3..end]);
+    hold_tops(exp, limit, &mut tops[3..end]);
 }
 
 // What `reach_near` leaves, among eight such bins on either side.
@@ -95,13 +97,14 @@ fn pad_near(from: &[u8], near: &mut [u8])
     reach_near(from, &mut near[8..end]);
 }
 
-// The exponents as the two passes of `preprocess_d15` leave them.
-pub(crate) fn reach_all(exp: &mut [u8])
+// The exponents as the two passes of D15 leave them.
+pub(crate) fn reach_all(exp: &mut [u8], limit: u8)
     requires { ⌜ (0 < length (now exp)) × (length (now exp) ≤ 256) ⌝ }
-    ensures { λ _. ⌜ now (exp .exit) ≡ d15 (now (exp .entry)) ⌝ }
+    requires { ⌜ (15 ≤ limit) × (limit ≤ 24) ⌝ }
+    ensures { λ _. ⌜ now (exp .exit) ≡ limited limit (now (exp .entry)) ⌝ }
 {
     let mut tops = [24u8; 262];
-    pad_tops(exp, &mut tops);
+    pad_tops(exp, limit, &mut tops);
     let mut near = [24u8; 272];
     let tops_end = 6 + exp.len();
     pad_near(&tops[0..tops_end], &mut near);

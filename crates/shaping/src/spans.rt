@@ -1,11 +1,12 @@
-// `quantise_exponents_to_grpsize`: exponents shared by spans, in place (document 01, "Exponents"; A/52 7.1.3). A span of h + 1 bins is named by h.
+// `quantise_exponents_to_grpsize`: exponents shared by spans, in place (document 02, W4; A/52 7.1.3). A span of h + 1 bins is named by h; of the
+// span of the first bin k more bins follow.
 ghost use mathlib.Core.Path.{_≡_};
-ghost use mathlib.Core.List.{_++_};
-ghost use Prim.Native.Nat.{_+_, _<_, _≤_};
+ghost use Prim.Native.Nat.{_+_, _-_, _*_, _<_, _≤_};
 ghost use lib.ListN.{length, take, drop, getD};
-ghost use Rattle.shaping.specs.Passes.{least, merged, countDown, frontLowered, lowerSpans, isSpan, spanned, quantiseRefusal, quantised};
-use crate::passes::lead;
-use crate::passes::roof;
+ghost use Rattle.shaping.specs.D15.{limited};
+ghost use Rattle.shaping.specs.Spans.{least, spanLeasts, spread, shared, spanned};
+ghost use Rattle.shaping.specs.Passes.{isSpan, quantiseRefusal, quantised};
+use crate::d15::shape;
 use crate::passes::smaller;
 
 // The least of exp[i] and the h entries after it, or as many as there are.
@@ -27,75 +28,95 @@ pub fn least_from(exp: &[u8], i: usize, h: usize) -> u8
     m
 }
 
-// Pass 1: each span from bin 1 on becomes its least.
-fn merge(exp: &mut [u8], h: usize)
-    ensures { λ _. ⌜ now (exp .exit) ≡ take 1 (now (exp .entry)) ++ merged h 0 0 (drop 1 (now (exp .entry))) ⌝ }
+// The least of each span, and how many there are.
+fn gather_by(exp: &[u8], h: usize, k: usize, to: &mut [u8]) -> usize
+    requires { ⌜ (0 < length (now exp)) × (length (now exp) ≤ 256) ⌝ }
+    requires { ⌜ (length (now to) ≡ 256) × (h ≤ 255) × (k ≤ 255) ⌝ }
+    ensures { λ c. ⌜ (c ≤ 256) × (take c (now (to .exit)) ≡ spanLeasts h k (now (exp .entry))) ⌝ }
 {
     let n = exp.len();
-    let mut i = 1;
-    let mut j = 0;
-    let mut v = 0u8;
+    to[0] = least_from(exp, 0, k);
+    let mut i = k + 1;
+    let mut c = 1;
     while i < n {
-        if j == 0 {
-            v = least_from(exp, i, h);
-            j = h;
-        } else {
-            j -= 1;
-        }
-        exp[i] = v;
+        to[c] = least_from(exp, i, h);
+        i += h + 1;
+        c += 1;
+    }
+    c
+}
+
+// The same, a strategy's span written out, which leaves no loop over its bins.
+fn gather(exp: &[u8], h: usize, k: usize, to: &mut [u8]) -> usize
+    requires { ⌜ (0 < length (now exp)) × (length (now exp) ≤ 256) ⌝ }
+    requires { ⌜ (length (now to) ≡ 256) × (h ≤ 255) × (k ≤ 255) ⌝ }
+    ensures { λ c. ⌜ (c ≤ 256) × (take c (now (to .exit)) ≡ spanLeasts h k (now (exp .entry))) ⌝ }
+{
+    if h == 1 {
+        return gather_by(exp, 1, k, to);
+    }
+    if h == 3 {
+        return gather_by(exp, 3, k, to);
+    }
+    gather_by(exp, h, k, to)
+}
+
+// Each value over its span.
+fn spread_by(values: &[u8], h: usize, k: usize, exp: &mut [u8])
+    requires { ⌜ length (now exp) + (h - k) ≤ length (now values) * (h + 1) ⌝ }
+    requires { ⌜ (length (now exp) ≤ 256) × (h ≤ 255) × (k ≤ h) ⌝ }
+    ensures { λ _. ⌜ now (exp .exit) ≡ spread h k (length (now (exp .entry))) (now (values .entry)) ⌝ }
+{
+    let mut i = 0;
+    while i < exp.len() {
+        exp[i] = values[(i + (h - k)) / (h + 1)];
         i += 1;
     }
 }
 
-// The span at i, if it lacks no bin, as a whole under the bin that follows it.
-fn lower_span(exp: &mut [u8], i: usize, h: usize, c: usize)
-    requires { ⌜ i < length (now exp) ⌝ }
-    requires { ⌜ h ≤ 255 ⌝ }
-    ensures { λ _. ⌜ now (exp .exit) ≡ take i (now (exp .entry)) ++ frontLowered h c (drop i (now (exp .entry))) ⌝ }
+// The same, a strategy's span written out, which leaves no division.
+fn spread_out(values: &[u8], h: usize, k: usize, exp: &mut [u8])
+    requires { ⌜ length (now exp) + (h - k) ≤ length (now values) * (h + 1) ⌝ }
+    requires { ⌜ (length (now exp) ≤ 256) × (h ≤ 255) × (k ≤ h) ⌝ }
+    ensures { λ _. ⌜ now (exp .exit) ≡ spread h k (length (now (exp .entry))) (now (values .entry)) ⌝ }
 {
-    if c != 0 {
+    if h == 1 {
+        spread_by(values, 1, k, exp);
         return;
     }
-    let n = exp.len();
-    if n - i <= h + 1 {
+    if h == 3 {
+        spread_by(values, 3, k, exp);
         return;
     }
-    let e = i + (h + 1);
-    let w = roof(exp[e]);
-    if exp[i] <= w {
-        return;
-    }
-    slices::fill(&mut exp[i..e], w);
+    spread_by(values, h, k, exp);
 }
 
-// One bin less to come, or the first of a span.
-fn count_down(h: usize, c: usize) -> usize
-    ensures { λ r. ⌜ r ≡ countDown h c ⌝ }
+// The values shaped as D15 is, then each over its span.
+fn shape_spans(values: &mut [u8], limit: u8, h: usize, k: usize, exp: &mut [u8])
+    requires { ⌜ length (now exp) + (h - k) ≤ length (now values) * (h + 1) ⌝ }
+    requires { ⌜ (length (now exp) ≤ 256) × (h ≤ 255) × (k ≤ h) ⌝ }
+    requires { ⌜ (length (now values) ≤ 256) × (15 ≤ limit) × (limit ≤ 24) ⌝ }
+    ensures { λ _. ⌜ now (exp .exit) ≡ spread h k (length (now (exp .entry))) (limited limit (now (values .entry))) ⌝ }
 {
-    if c == 0 { h } else { c - 1 }
+    shape(values, limit);
+    spread_out(values, h, k, exp);
 }
 
-// The backward pass over the spans, counted from the last bin, down to bin 1.
-fn lower_spans(exp: &mut [u8], h: usize)
-    requires { ⌜ h ≤ 255 ⌝ }
-    ensures { λ _. ⌜ now (exp .exit) ≡ take 1 (now (exp .entry)) ++ lowerSpans h (drop 1 (now (exp .entry))) ⌝ }
+// Shared by spans, the first value at most its limit.
+fn share(exp: &mut [u8], limit: u8, h: usize, k: usize)
+    requires { ⌜ (0 < length (now exp)) × (length (now exp) ≤ 256) ⌝ }
+    requires { ⌜ (h ≤ 255) × (k ≤ h) ⌝ }
+    requires { ⌜ (15 ≤ limit) × (limit ≤ 24) ⌝ }
+    ensures { λ _. ⌜ now (exp .exit) ≡ shared limit h k (now (exp .entry)) ⌝ }
 {
-    let n = exp.len();
-    if n < 2 {
-        return;
-    }
-    let mut i = n;
-    let mut c = 0;
-    while 1 < i {
-        i -= 1;
-        c = count_down(h, c);
-        lower_span(exp, i, h, c);
-    }
+    let mut values = [0u8; 256];
+    let c = gather(exp, h, k, &mut values);
+    shape_spans(&mut values[0..c], limit, h, k, exp);
 }
 
-// The three passes; a span of 1, or one bin alone, stays.
-fn share(exp: &mut [u8], h: usize)
-    requires { ⌜ h ≤ 255 ⌝ }
+// A channel's: bin 0 stands alone and is at most 15, which 4 bits hold. A span of 1, or one bin alone, stays.
+fn share_channel(exp: &mut [u8], h: usize)
+    requires { ⌜ (h ≤ 255) × (length (now exp) ≤ 256) ⌝ }
     ensures { λ _. ⌜ now (exp .exit) ≡ spanned h (now (exp .entry)) ⌝ }
 {
     if h == 0 {
@@ -104,9 +125,7 @@ fn share(exp: &mut [u8], h: usize)
     if exp.len() < 2 {
         return;
     }
-    merge(exp, h);
-    lower_spans(exp, h);
-    lead(exp, h);
+    share(exp, 15, h, 0);
 }
 
 // A strategy's span.
@@ -126,6 +145,6 @@ pub fn quantise_exponents_to_grpsize(exp: &mut [u8], grpsize: usize) -> u32
     if 256 < exp.len() {
         return bits::refusal::WRONG_LENGTH;
     }
-    share(exp, grpsize - 1);
+    share_channel(exp, grpsize - 1);
     bits::refusal::ACCEPTED
 }

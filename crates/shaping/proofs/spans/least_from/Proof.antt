@@ -3,7 +3,7 @@ use mathlib.Core.Path.{_≡_, refl}
 use Prim.Native.Nat.{_≤_, _+_}
 use native.Mathlib.Omega.{arith}
 use lib.ListN.{length, drop, getD}
-use Rattle.shaping.specs.Passes.{least}
+use Rattle.shaping.specs.Spans.{least}
 use Rattle.shaping.proofs.Sweep.{least-more, least-end, least-none}
 use borrow.Author.Needs.{needs}
 use Rattle.shaping.proofs.spans.least_from.Statement.{statement}
