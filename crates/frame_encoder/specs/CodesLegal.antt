@@ -1,4 +1,4 @@
--- The codes of a frame are legal: as many as there are bins, each in range for its bap, none from end on.
+-- The codes of a frame are legal: as many as there are bins, each in range for its bap, none from end on. And each is that of its coefficient.
 use Prim.Native.Nat.{ℕ, zero, suc, _+_, _-_, _*_, _≤_, _<_}
 use mathlib.Core.Bool.{true}
 use mathlib.Core.List.{List, [], _∷_, _++_}
@@ -16,7 +16,7 @@ use Rattle.frame.specs.Legal.{codesLegal, LegalFrame}
 use Rattle.frame_rows.specs.Rows.{bapsOf, cleaned}
 use Rattle.frame_rows.specs.RowsLaws.{length-baps}
 use Rattle.frame_runs.specs.Inner.{Encodable}
-use Rattle.frame_runs.specs.FramedLaws.{length-framed, row-framed-clean, framed-clean}
+use Rattle.frame_runs.specs.FramedLaws.{length-framed, part-framed, row-framed-clean, framed-clean, below-row}
 use Rattle.frame_runs.specs.Runs.{belowEnd, expsOf}
 use Rattle.frame_runs.specs.RunsLaws.{whole-below}
 use Rattle.frame_runs.specs.RunsLegal.{length-expsOf, expsOf-legal}
@@ -24,6 +24,7 @@ use Rattle.mantissas.specs.CodedLaws.{coded-is}
 use Rattle.mantissas.specs.RangesLaws.{row}
 use Rattle.mantissas.specs.Stream.{coded}
 use Rattle.mantissas.specs.Inner.{Coded, empty, bin}
+use Rattle.quantiser.specs.Code.{codeOf}
 use Rattle.quantiser.specs.CodeLaws.{code-in-range}
 use Rattle.sheet.specs.Sheet.{checkOf}
 use Rattle.sheet.specs.Tests.{all-hold}
@@ -69,6 +70,16 @@ length-codesFor (x ∷ xs) [] bap e f = absurd (omega arith)
 length-codesFor (x ∷ xs) (k ∷ exps) [] e f = absurd (omega arith)
 length-codesFor (x ∷ xs) (k ∷ exps) (b ∷ bap) e f = ap suc (length-codesFor xs exps bap (omega arith) (omega arith))
 
+-- the code at i
+code-at : (xs : List Float) (exps bap : List ℕ) (i : ℕ) (z : Float) → length exps ≡ length xs → length bap ≡ length xs → i < length xs
+    → getD (codesFor xs exps bap) i 0 ≡ codeOf (getD xs i z) (getD exps i 0) (getD bap i 0)
+unfolding codesFor
+code-at [] exps bap i z e f h = absurd (omega arith)
+code-at (x ∷ xs) [] bap i z e f h = absurd (omega arith)
+code-at (x ∷ xs) (k ∷ exps) [] i z e f h = absurd (omega arith)
+code-at (x ∷ xs) (k ∷ exps) (b ∷ bap) zero z e f h = refl
+code-at (x ∷ xs) (k ∷ exps) (b ∷ bap) (suc i) z e f h = code-at xs exps bap i z (omega arith) (omega arith) (omega arith)
+
 -- ---- a frame's codes
 
 module _ (sheet : List ℕ) (coeffs : List Float) (exps bap : List ℕ) (accepted : checkOf sheet ≡ refusal.accepted) (e : Encodable sheet coeffs) (a : Allocated sheet exps bap) where
@@ -105,6 +116,22 @@ module _ (sheet : List ℕ) (coeffs : List Float) (exps bap : List ℕ) (accepte
         subst (λ (bs : List ℕ). Coded bs codes) below (coded-for _ _ _ (codable .exps-long) (codable .bap-long) (codable .fit)) in
         rw (← take-append-drop n baps) (coded-append front (coded-zeros (drop n baps) (256 - n) rest past))
 
+  -- each code below an end is that of its coefficient at that bin's exponent and bap
+  pub codesAt-at : (b c i : ℕ) (z : Float) → b < 6 → c < channels sheet → i < endAt sheet c
+      → getD (belowEnd sheet b c (codesAt sheet coeffs exps bap)) i 0
+      ≡ codeOf (getD (belowEnd sheet b c coeffs) i z) (getD (belowEnd sheet b c exps) i 0) (getD (belowEnd sheet b c bap) i 0)
+  unfolding codesAt codePart
+  codesAt-at b c i z hb hc hi =
+      let k = codable b c hb hc in
+      let n = endAt sheet c in
+      let codes = codesFor (belowEnd sheet b c coeffs) (belowEnd sheet b c exps) (belowEnd sheet b c bap) in
+      let below : belowEnd sheet b c (codesAt sheet coeffs exps bap) ≡ codes =
+      below-row sheet b c (codesAt sheet coeffs exps bap) hc (end-held sheet accepted b c hb hc)
+      ∙ ap (take n) (part-framed sheet (codePart sheet coeffs exps bap) length-codePart b c hb hc)
+      ∙ take-at codes (replicate {A = ℕ} (256 - n) 0) n (length-below-end b c hb hc) in
+      ap (λ (l : List ℕ). getD l i 0) below
+      ∙ code-at _ _ _ i z (k .exps-long) (k .bap-long) (omega (arith, hi, whole-below sheet b c coeffs accepted hb hc (e .whole)))
+
   pub length-codesAt : length (codesAt sheet coeffs exps bap) ≡ 256 * channels sheet * 6
   unfolding codesAt
   length-codesAt = length-framed sheet (codePart sheet coeffs exps bap) length-codePart
@@ -134,6 +161,12 @@ module _ (sheet : List ℕ) (coeffs : List Float) (accepted : checkOf sheet ≡ 
   pub length-codesOf : length (codesOf sheet coeffs) ≡ 256 * channels sheet * 6
   unfolding codesOf
   length-codesOf = length-codesAt sheet coeffs _ _ accepted e runs-allocated
+
+  pub codesOf-at : (b c i : ℕ) (z : Float) → b < 6 → c < channels sheet → i < endAt sheet c
+      → getD (belowEnd sheet b c (codesOf sheet coeffs)) i 0
+      ≡ codeOf (getD (belowEnd sheet b c coeffs) i z) (getD (belowEnd sheet b c (expsOf sheet coeffs)) i 0) (getD (belowEnd sheet b c (bapsOf sheet (expsOf sheet coeffs))) i 0)
+  unfolding codesOf
+  codesOf-at = codesAt-at sheet coeffs _ _ accepted e runs-allocated
 
   pub codesOf-clean : cleaned sheet (codesOf sheet coeffs) ≡ codesOf sheet coeffs
   unfolding codesOf

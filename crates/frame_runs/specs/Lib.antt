@@ -11,3 +11,4 @@ pub mod FillingLaws
 pub mod FramedLaws
 pub mod CarriedLaws
 pub mod RunsLegal
+pub mod NotAboveLaws

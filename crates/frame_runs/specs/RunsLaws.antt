@@ -6,6 +6,7 @@ use native.Mathlib.Numerals.{add-one}
 use native.Mathlib.Omega.{arith}
 use lib.Ieee.{Float}
 use lib.ListN.{length, take, drop, getD, length-take, length-drop}
+use lib.Seq.{getD-take, getD-drop}
 use Rattle.bits.specs.Refusal as refusal
 use Rattle.frame.specs.Layout.{channels, endAt, setAt}
 use Rattle.frame.specs.Under.{Under, channel-known, held-channels, held-end, by-reuse, by-new}
@@ -24,6 +25,13 @@ pub length-below : {A : Type 0} (sheet : List ℕ) (b c : ℕ) (l : List A) → 
     → length (belowEnd sheet b c l) ≡ endAt sheet c
 unfolding belowEnd
 length-below sheet b c l h = rw (length-take, length-drop) (omega arith)
+
+-- and where each of them stands in the buffer
+pub at-below-end : {A : Type 0} (sheet : List ℕ) (b c i : ℕ) (l : List A) (z : A) → i < endAt sheet c
+    → getD (belowEnd sheet b c l) i z ≡ getD l (partStart (channels sheet) b c + i) z
+unfolding belowEnd
+at-below-end sheet b c i l z h =
+    getD-take (endAt sheet c) (drop (partStart (channels sheet) b c) l) i z h ∙ getD-drop (partStart (channels sheet) b c) l i z
 
 module _ {sheet : List ℕ} {track : Track} {strategies : List (List BlockSet)} (u : Under sheet track strategies) where
   module _ (b c a : ℕ) (p : PartStart (track .channels) b c a) (h : c < channels sheet) where

@@ -40,7 +40,7 @@ module _ (sheet : List ℕ) (coeffs : List Float) (accepted : checkOf sheet ≡ 
   -- ---- a channel's part of a block
 
   module _ (b c : ℕ) (hb : b < 6) (hc : c < channels sheet) (span : ℕ) where
-    run-taken : take (endAt sheet c) (runPart sheet coeffs b c span) ≡ runExponents sheet coeffs b c span
+    pub run-taken : take (endAt sheet c) (runPart sheet coeffs b c span) ≡ runExponents sheet coeffs b c span
     unfolding runPart
     run-taken = take-at (runExponents sheet coeffs b c span) _ (endAt sheet c) (length-runExponents sheet coeffs accepted whole c hc b hb span)
 
@@ -56,17 +56,17 @@ module _ (sheet : List ℕ) (coeffs : List Float) (accepted : checkOf sheet ≡ 
         legal-new span (endAt sheet c) old (runPart sheet coeffs b c span)
         (rw run-taken (shaped-of _ _ (run-shaped span (runLeast sheet coeffs b c) (known-set sheet b c .known span new) (omega arith))))
 
-  reuse-part : (b c : ℕ) → setAt sheet (suc b) c ≡ Reuse → partAt sheet coeffs (suc b) c ≡ partAt sheet coeffs b c
+  pub reuse-part : (b c : ℕ) → setAt sheet (suc b) c ≡ Reuse → partAt sheet coeffs (suc b) c ≡ partAt sheet coeffs b c
   unfolding partAt
   reuse-part b c z = by-reuse _ _ z
 
-  new-part : (b c span : ℕ) → setAt sheet b c ≡ New span → partAt sheet coeffs b c ≡ runPart sheet coeffs b c span
+  pub new-part : (b c span : ℕ) → setAt sheet b c ≡ New span → partAt sheet coeffs b c ≡ runPart sheet coeffs b c span
   unfolding partAt
   new-part zero c span new = by-new _ _ span new
   new-part (suc b) c span new = by-new _ _ span new
 
   -- block 0 has a new set
-  first-new : {X : Type 0} (c : ℕ) → c < channels sheet → ((span : ℕ) → setAt sheet 0 c ≡ New span → X) → X
+  pub first-new : {X : Type 0} (c : ℕ) → c < channels sheet → ((span : ℕ) → setAt sheet 0 c ≡ New span → X) → X
   first-new c hc = one-of-two (setAt sheet 0 c) (λ z. absurd (channel-known sheet accepted c hc .first z))
 
   part-clean : (b c : ℕ) → b < 6 → c < channels sheet → clean (endAt sheet c) (partAt sheet coeffs b c) ≡ partAt sheet coeffs b c

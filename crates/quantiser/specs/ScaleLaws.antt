@@ -14,6 +14,7 @@ use borrow.Author.Tests.{lt-ltb, le-ltb}
 use lib.Ieee.Scale.{finite}
 use lib.Ieee.Fits.{down-pos, round-is}
 use lib.Ieee.Exact.{HasValue}
+use lib.Ieee.Positive.{num, den}
 use Rattle.shaping.specs.ExtractLaws.{digits-from}
 use Rattle.quantiser.specs.FloatLaws.{mul-is, scale-exact, pow-float}
 use Rattle.quantiser.specs.Scale.{one32, minusOne32, held, scaled}
@@ -89,13 +90,32 @@ held-id (fin false p d) s a c C h l =
     let k : p * up d ≤ down d = at-most (p * up d) (down d) a c C (h .1) l in
     rw (le-ltb (1 * down d) (p * up d * 1) (omega arith))
 
-pub scaled-exact : (s : Bool) (m : ℕ) (e : ℤ) (k : ℕ) → T (fits binary32 (fin s m e)) → k ≤ 24 → m * up e * 2 ^ k ≤ down e
-    → HasValue (scaled (fin s m e) k) s (m * up e * 2 ^ k) (down e)
-unfolding scaled
-scaled-exact s m e k f K h =
-    let v : HasValue (mul binary32 (fin s m e) (ofInt binary32 (pos (2 ^ k)))) s (m * up e * 2 ^ k) (down e) =
-    rw (pow-float k K) (scale-exact s m e k f (lt-of-le-of-lt h (below-range (down e) (down-pos e)))) in
-    rw (held-id (mul binary32 (fin s m e) (ofInt binary32 (pos (2 ^ k)))) s (m * up e * 2 ^ k) (down e) (down-pos e) v h) v
+module _ (s : Bool) (m : ℕ) (e : ℤ) (k : ℕ) (f : T (fits binary32 (fin s m e))) (K : k ≤ 24) (h : m * up e * 2 ^ k ≤ down e) where
+  product-exact : HasValue (mul binary32 (fin s m e) (ofInt binary32 (pos (2 ^ k)))) s (m * up e * 2 ^ k) (down e)
+  product-exact = rw (pow-float k K) (scale-exact s m e k f (lt-of-le-of-lt h (below-range (down e) (down-pos e))))
+
+  -- it is the product, not -1 or 1 for it
+  scaled-unheld : scaled (fin s m e) k ≡ mul binary32 (fin s m e) (ofInt binary32 (pos (2 ^ k)))
+  unfolding scaled
+  scaled-unheld = held-id (mul binary32 (fin s m e) (ofInt binary32 (pos (2 ^ k)))) s (m * up e * 2 ^ k) (down e) (down-pos e) product-exact h
+
+  pub scaled-exact : HasValue (scaled (fin s m e) k) s (m * up e * 2 ^ k) (down e)
+  scaled-exact = rw scaled-unheld product-exact
+
+less-than : (y : Float) (s : Bool) (a c : ℕ) → HasValue y s a c → a < c → num y < den y
+less-than nan s a c h l = absurd h
+less-than (inf t) s a c h l = absurd h
+less-than (fin t p d) s a c h l =
+    lt-of-mul-lt-mul-right c (lt-of-le-of-lt (le-of-eq (h .1)) (lt-of-lt-of-le (mul-lt-mul-of-pos-right l (down-pos d)) (le-of-eq (mul-comm c (down d)))))
+
+-- where |x| × 2^k is below 1, the mantissa is below 1 in size, and nothing was held
+pub scaled-below-one : (x : Float) (k : ℕ) → T (fits binary32 x) → T (finite x) → k ≤ 24 → num x * 2 ^ k < den x
+    → (num (scaled x k) < den (scaled x k)) × (scaled x k ≡ mul binary32 x (ofInt binary32 (pos (2 ^ k))))
+scaled-below-one nan k f t K h = absurd t
+scaled-below-one (inf s) k f t K h = absurd t
+scaled-below-one (fin s m e) k f t K h =
+    let l : m * up e * 2 ^ k ≤ down e = omega (arith, h) in
+    (less-than (scaled (fin s m e) k) s (m * up e * 2 ^ k) (down e) (scaled-exact s m e k f K l) h, scaled-unheld s m e k f K l)
 
 -- ---- and -1 or 1 where it is more
 

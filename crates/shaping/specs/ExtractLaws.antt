@@ -84,6 +84,13 @@ exponent-large (inf s) f t a = absurd t
 exponent-large (fin s m e) f t a =
     omega (arith, exponent-is s m e f, digits-above s m e f 0 (omega arith) (rw (mul-one (m * up e)) a))
 
+-- |x| < 1: then |x| stays below 1 at every scale up to its exponent
+pub exponent-stays : (x : Float) (k : ℕ) → T (fits binary32 x) → T (finite x) → num x < den x → k ≤ exponentOf x → num x * 2 ^ k < den x
+exponent-stays nan k f t a l = absurd t
+exponent-stays (inf s) k f t a l = absurd t
+exponent-stays (fin s m e) k f t a l =
+    below-one s m e f k (omega (arith, l, exponent-is s m e f, digits-under s m e f 0 (omega arith) (rw (mul-one (m * up e)) a)))
+
 pub exponent-at-most : (x : Float) → exponentOf x ≤ 24
 unfolding exponentOf
 exponent-at-most x = omega arith
