@@ -19,8 +19,8 @@ const HELP: &str =
 differential --frames N [--seed S] [--first I]   N random frames, from number I (0) on
 differential --scan   extraction over every magnitude of an f32, and all bits of what is not finite";
 
-/// How much of document 02 the oracle's model has: it is document 01 with W1 to W3; W2 changes no answer.
-const REVISION: u8 = 3;
+/// How much of document 02 the oracle's model has: it is document 01 with W1 to W4; W2 changes no answer.
+const REVISION: u8 = 4;
 
 /// The names that `pick_strategy_for_block` of the Rust looks up; document 01 has them unset.
 const SWITCHES: [&str; 4] = ["AC3_EXPSTR_D45_THR", "AC3_EXPSTR_D25_THR", "AC3_DISABLE_D45", "AC3_FORCE_EXPSTR"];

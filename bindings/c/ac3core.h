@@ -126,11 +126,14 @@ uint32_t ac3_mantissa_bits_total_ends(const uint8_t *sheet, size_t n, const uint
  * Refuses 10, 3. */
 uint32_t ac3_extract_exponent(float x, uint8_t *exponent, size_t one);
 
-/* Shapes any bytes for D15, in place.
+/* Shapes any bytes for D15, in place: the greatest exponents not above them with the first at most 15, all at most 24
+ * and neighbours within 2.
  * Refuses 10. */
 uint32_t ac3_preprocess_d15(uint8_t *exp, size_t n);
 
-/* Shapes exponents for a span, in place.
+/* Shapes any bytes for a span, in place: for spans 2 and 4 the greatest exponents not above them with the first at most
+ * 15, all at most 24, one value in each span from bin 1 on and neighbouring spans within 2. With span 1, and of one entry,
+ * all stays.
  * Refuses 2, 10. */
 uint32_t ac3_quantise_exponents_to_grpsize(uint8_t *exp, size_t n, size_t grpsize);
 

@@ -13,6 +13,7 @@ use rust_reference::rng::Rng;
 pub fn run(tally: &mut Tally) {
     extraction(tally);
     shaping(tally);
+    short_last_spans(tally);
     groups(tally);
     strategies(tally);
     strategy_limits(tally);
@@ -71,6 +72,34 @@ fn quantise_one(tally: &mut Tally, e: &[u8], span: usize) {
     tally
         .step("short: quantise_exponents_to_grpsize")
         .case(k.1, k.0 == k.1 && here == there, || format!("span {span} of {e:?}: {here:?}, {there:?}"));
+    if k.1 == 0 && (e.len() <= span || (e.len() - 1) % span == 0) {
+        let mut rust = e.to_vec();
+        r::r_quantise_exponents(&mut rust, span);
+        tally
+            .step("short: quantise_exponents_to_grpsize, the Rust")
+            .case(0, here == rust, || format!("span {span} of {e:?}: {here:?}, {rust:?}"));
+    }
+}
+
+/// A span, exponents whose short last span is not the only one, what they become here, and in the Rust (docs/DIFFERENCES.md).
+const SHORT_LAST: [(usize, &[u8], &[u8], &[u8]); 5] = [
+    (2, &[1, 3, 3, 0], &[1, 2, 2, 0], &[1, 3, 3, 1]),
+    (2, &[6, 6, 6, 4, 2, 2], &[6, 4, 4, 2, 2, 2], &[6, 6, 6, 4, 4, 2]),
+    (4, &[1, 3, 3, 3, 3, 0], &[1, 2, 2, 2, 2, 0], &[1, 3, 3, 3, 3, 1]),
+    (4, &[1, 3, 3, 3, 3, 0, 0], &[1, 2, 2, 2, 2, 0, 0], &[1, 3, 3, 3, 3, 1, 1]),
+    (4, &[1, 3, 3, 3, 3, 0, 0, 0], &[1, 2, 2, 2, 2, 0, 0, 0], &[1, 3, 3, 3, 3, 1, 1, 1]),
+];
+
+/// Where equality with the Rust ends (document 02, W4).
+fn short_last_spans(tally: &mut Tally) {
+    for (span, e, want, rust_wants) in SHORT_LAST {
+        let (mut here, mut rust) = (e.to_vec(), e.to_vec());
+        let k = entries::quantise_exponents_to_grpsize(&mut here, span);
+        r::r_quantise_exponents(&mut rust, span);
+        tally
+            .step("short: a short last span, here and in the Rust")
+            .case(0, k == 0 && here == want && rust == rust_wants, || format!("span {span} of {e:?}: {here:?}, {rust:?}"));
+    }
 }
 
 /// All sequences of 0 to 4 over 0..26, of 5 and 6 over fewer values; every byte at each of 3 places; every length up to 258.

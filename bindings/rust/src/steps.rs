@@ -51,7 +51,9 @@ pub fn preprocess_d15(exp: &mut [u8]) -> Result<(), Refusal> {
     answer(ffi::preprocess_d15(exp))
 }
 
-/// Shapes exponents for a span of `grpsize` bins, in place.
+/// Shapes any bytes for a span of `grpsize` bins, in place: for spans 2 and 4 the greatest exponents not above them with
+/// the first at most 15, all at most 24, one value in each span from bin 1 on and neighbouring spans within 2. With span
+/// 1, and of one entry, all stays.
 ///
 /// # Errors
 ///
@@ -59,9 +61,9 @@ pub fn preprocess_d15(exp: &mut [u8]) -> Result<(), Refusal> {
 /// left as they were.
 ///
 /// ```
-/// let mut exp = [6, 6, 6, 4, 2];
+/// let mut exp = [6, 6, 6, 4, 2, 2];
 /// ac3core::steps::quantise_exponents_to_grpsize(&mut exp, 2)?;
-/// assert_eq!(exp, [6, 4, 4, 2, 2]);
+/// assert_eq!(exp, [6, 4, 4, 2, 2, 2]);
 /// # Ok::<(), ac3core::Refusal>(())
 /// ```
 pub fn quantise_exponents_to_grpsize(exp: &mut [u8], grpsize: usize) -> Result<(), Refusal> {

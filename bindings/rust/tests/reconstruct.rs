@@ -286,6 +286,45 @@ fn codes_at_the_edges() {
     assert_eq!(met, [true; 15], "every bap but 15 is met");
 }
 
+/// No exponent is above that of a coefficient which it serves, and what is below 1 comes back to within a third of
+/// 2^-exponent, the most that a level of bap 1 is off: it was not held to -1..1.
+fn comes_back_unclipped(sheet: &Sheet, coeffs: &[f32]) {
+    let frame = sheet.encode(coeffs).unwrap().frame;
+    let copy = sheet.reconstruct(&frame).unwrap();
+    for (block, channel) in (0..BLOCKS_PER_FRAME).flat_map(|block| (0..sheet.channels()).map(move |c| (block, c))) {
+        for (i, level) in sheet.bins(block, channel).zip(copy.block(sheet, block, channel)) {
+            let (x, exponent) = (coeffs[i], frame.exponents[i]);
+            assert!(exponent <= extract_exponent(x).unwrap(), "entry {i}: {x}, exponent {exponent}");
+            let off = level.filter(|_| x.abs() < 1.0).map_or(0.0, |level| f64::from(level) - f64::from(x));
+            assert!(off.abs() <= (1.0 / 3.0 + 1e-6) * 2f64.powi(-i32::from(exponent)), "entry {i}: {x}, {level:?}");
+        }
+    }
+}
+
+/// One loud bin at the top of a quiet spectrum, under D25 and D45 at every end, in a new block and in a reuse block
+/// (document 02, W4: "A cymbal in the top bins was clipped"); and random frames.
+#[test]
+fn loud_top_bins_are_not_clipped() {
+    let common = Common { csnroffst: 63, ..Common::default() };
+    for end in (37..=253).step_by(3) {
+        for strategy in [D25, D45] {
+            let strategies = [strategy, Reuse, Reuse, strategy, strategy, Reuse];
+            let record = ChannelRecord { strategies, fsnroffst: 15, ..ChannelRecord::new(end) };
+            let sheet = SheetBuilder::new(common).channel(record).check().unwrap();
+            for loud in [0, 1, 3] {
+                let mut coeffs = vec![2f32.powi(-9); sheet.entries()];
+                coeffs[sheet.bins(loud, 0).end - 1] = 0.9;
+                comes_back_unclipped(&sheet, &coeffs);
+            }
+        }
+    }
+    let mut random = Random(9);
+    for _ in 0..40 {
+        let sheet = random.sheet();
+        comes_back_unclipped(&sheet, &random.coeffs(&sheet));
+    }
+}
+
 #[test]
 #[should_panic(expected = "block 6 of a frame of 6")]
 fn a_block_that_no_frame_has() {

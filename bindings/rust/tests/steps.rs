@@ -1,5 +1,8 @@
-//! The steps alone, on the edges of document 01.
+//! The steps alone, on the edges of document 01, and exponents shared by spans (document 02, W4).
+mod support;
+
 use ac3core::{steps::*, Refusal, Strategy};
+use support::Random;
 
 #[test]
 fn exponents_of_the_papers_edges() {
@@ -17,11 +20,64 @@ fn shaping_of_the_papers_edges() {
         assert_eq!(preprocess_d15(&mut exp), Ok(()));
         assert_eq!(exp, want);
     }
-    for (given, want) in [(&[6u8, 6, 6, 4, 2][..], &[6u8, 4, 4, 2, 2][..]), (&[6, 6, 6, 4, 2, 2], &[6, 6, 6, 4, 4, 2])]
+    for (given, want) in [(&[6u8, 6, 6, 4, 2][..], &[6u8, 4, 4, 2, 2][..]), (&[6, 6, 6, 4, 2, 2], &[6, 4, 4, 2, 2, 2])]
     {
         let mut exp = given.to_vec();
         assert_eq!(quantise_exponents_to_grpsize(&mut exp, 2), Ok(()));
         assert_eq!(exp, want);
+    }
+}
+
+/// A short last span after a whole one, of each length: the smallest inputs where the Rust's answer is another.
+#[test]
+fn short_last_spans() {
+    for short in 1..4 {
+        let mut exp = [1u8, 3, 3, 3, 3, 0, 0, 0];
+        assert_eq!(quantise_exponents_to_grpsize(&mut exp[..5 + short], 4), Ok(()));
+        assert_eq!(exp, [1, 2, 2, 2, 2, 0, 0, 0]);
+    }
+    let mut exp = [1u8, 3, 3, 0];
+    assert_eq!(quantise_exponents_to_grpsize(&mut exp, 2), Ok(()));
+    assert_eq!(exp, [1, 2, 2, 0]);
+}
+
+/// Lowers exponents, bin by bin, until they are shaped for the span: what is left is the greatest.
+fn lowered_until_shaped(given: &[u8], grpsize: usize) -> Vec<u8> {
+    let span = |i: usize| if i == 0 { 0 } else { 1 + (i - 1) / grpsize };
+    let mut exp = given.to_vec();
+    loop {
+        let before = exp.clone();
+        for i in 0..exp.len() {
+            let bin = exp[i].min(if i == 0 { 15 } else { 24 });
+            let near = (0..exp.len()).filter(|&j| span(i).abs_diff(span(j)) < 2);
+            let most = near.map(|j| exp[j].saturating_add(2 * span(i).abs_diff(span(j)) as u8)).min();
+            exp[i] = bin.min(most.unwrap());
+        }
+        if exp == before {
+            return exp;
+        }
+    }
+}
+
+/// Spans 2 and 4 at every length: the greatest that is shaped and not above the input, whatever the last span, with
+/// `preprocess_d15` before and without. One bin alone stays.
+#[test]
+fn spans_give_the_greatest() {
+    let mut random = Random(4);
+    for length in (0..=40).chain(249..=256) {
+        for (grpsize, most) in [(2, 3), (2, 24), (2, 255), (4, 3), (4, 24), (4, 255)] {
+            let given: Vec<u8> = (0..length).map(|_| random.byte(most)).collect();
+            let want = if length < 2 { given.clone() } else { lowered_until_shaped(&given, grpsize) };
+            let mut exp = given.clone();
+            assert_eq!(quantise_exponents_to_grpsize(&mut exp, grpsize), Ok(()));
+            assert_eq!(exp, want, "span {grpsize} of {given:?}");
+            if length >= 2 {
+                exp = given.clone();
+                assert_eq!(preprocess_d15(&mut exp), Ok(()));
+                assert_eq!(quantise_exponents_to_grpsize(&mut exp, grpsize), Ok(()));
+                assert_eq!(exp, want, "D15, then span {grpsize} of {given:?}");
+            }
+        }
     }
 }
 
