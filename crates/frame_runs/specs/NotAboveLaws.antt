@@ -1,13 +1,12 @@
 -- An exponent of a frame serves its bin in every block of a run. It is not above the exponent that is extracted from the coefficient in any of them.
 use Prim.Native.Nat.{ℕ, zero, suc, _+_, _-_, _*_, _≤_, _<_}
 use mathlib.Core.List.{List, [], _∷_}
-use mathlib.Core.Path.{_≡_, refl, sym, ap, _∙_}
+use mathlib.Core.Path.{_≡_, refl, ap, _∙_}
 use native.Mathlib.Decide.{decLt}
 use native.Mathlib.Nat.{add-zero, le-trans, le-of-eq}
 use native.Mathlib.Omega.{arith}
 use lib.Ieee.{Float}
 use lib.ListN.{length, take, getD}
-use lib.Seq.{getD-take}
 use Rattle.bits.specs.Refusal as refusal
 use Rattle.frame.specs.Layout.{channels, endAt, setAt}
 use Rattle.frame.specs.Under.{channel-known, one-of-two, by-reuse, by-new}

@@ -1,9 +1,9 @@
 -- SCALING (document 02, W4: "A cymbal in the top bins was clipped, since the Rust may raise an exponent"): no coefficient below 1 in magnitude is held to
 -- -1..1 when `encode_body` codes it, under every strategy, in new blocks and in reuse blocks. |x| is num x / den x, in whole numbers.
-use Prim.Native.Nat.{ℕ, _+_, _*_, _^_, _≤_, _<_}
-use mathlib.Core.Path.{_≡_, sym, ap, _∙_}
+use Prim.Native.Nat.{ℕ, _+_, _^_, _≤_, _<_}
+use mathlib.Core.Path.{_≡_}
 use mathlib.Core.List.{List}
-use native.Mathlib.Nat.{le-trans, le-of-eq}
+use native.Mathlib.Nat.{le-trans}
 use lib.Dec.{T}
 use lib.IntN.{pos}
 use lib.Ieee.{Float, nan, binary32, fits, mul, ofInt}

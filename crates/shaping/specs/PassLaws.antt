@@ -1,9 +1,7 @@
 -- D15 shaping leaves the greatest, for any bytes, any length and any limit of the first bin up to 24.
-use mathlib.Core.Path.{_≡_, refl, ap, _∙_}
 use mathlib.Core.List.{List, [], _∷_}
 use Prim.Native.Nat.{ℕ, _+_, _≤_}
 use native.Mathlib.Omega.{arith}
-use lib.ListN.{length}
 use Rattle.shaping.specs.Greatest.{Below, Greatest, Follows, ShapedFrom}
 use Rattle.shaping.specs.GreatestLaws.{below-trans}
 use Rattle.shaping.specs.D15.{under, backward, held, forward, first, limited}

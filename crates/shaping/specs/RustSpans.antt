@@ -1,5 +1,5 @@
--- The Rust's `quantise_exponents_to_grpsize`, pass by pass. Where its answer is that of Spans.antt is shown in RustLaws.antt (`as-the-rust`); a reader
--- has to believe nothing of this file unless he compares with the Rust. A span of h + 1 bins is named by h.
+-- The Rust's `quantise_exponents_to_grpsize`, pass by pass: what a comparison with it rests on, and nothing else does. Where its answer is that of
+-- Spans.antt is shown in RustLaws.antt (`as-the-rust`). A span of h + 1 bins is named by h.
 use mathlib.Core.Bool.{cond}
 use mathlib.Core.List.{List, [], _∷_, _++_}
 use Prim.Native.Nat.{ℕ, zero, suc}
