@@ -28,8 +28,8 @@ use Rattle.excitation.specs.Front.{front}
 use Rattle.excitation.specs.FrontLaws.{tab-zeros}
 use Rattle.excitation.specs.Held.{after, excitedBy}
 use Rattle.excitation.specs.HeldLaws.{after-le, after-same}
-use Rattle.excitation.specs.declared.excitation.Leak.{Leak}
-use Rattle.excitation.specs.declared.excitation.Leaks.{Leaks}
+use Rattle.excitation.specs.declared.excitation.LeakParameters.{LeakParameters}
+use Rattle.excitation.specs.declared.excitation.LeakState.{LeakState}
 use Rattle.masking.specs.Held.{heldDeltas}
 use Rattle.masking.specs.HeldLaws.{deltas-most}
 use Rattle.allocation.specs.Initialization.{dbkneeOf}
@@ -82,11 +82,11 @@ powers-most exp end powers e k = rw e (go (decLt k 51))
     go (yes l) = rw (getD-tab 51 (bndpsd exp 0 end) k l) (bndpsd-most exp 0 end k)
     go (no l) = rw (List·getD-eq-default (tab 51 (bndpsd exp 0 end)) 0 {n = k} (omega (arith, l, length-tab 51 (bndpsd exp 0 end)))) (omega arith)
 
-excited-most : (p : Leak) (lfe : Bool) (powers : List ℕ) → ((k : ℕ) → getD powers k 0 ≤ 3492) → (k : ℕ) → excitedBy p lfe powers k ≤ 3492
+excited-most : (p : LeakParameters) (lfe : Bool) (powers : List ℕ) → ((k : ℕ) → getD powers k 0 ≤ 3492) → (k : ℕ) → excitedBy p lfe powers k ≤ 3492
 unfolding excitedBy
 excited-most p lfe powers h k = after-le p lfe (λ i. getD powers i 0) 3492 h (suc k) .excite≤
 
-pub excites-small : (p : Leak) (lfe : Bool) (powers : List ℕ) (n : ℕ) (xs zs : List ℕ) → n ≤ 50 → xs ≡ front (excitedBy p lfe powers) n zs → zs ≡ replicate 50 0
+pub excites-small : (p : LeakParameters) (lfe : Bool) (powers : List ℕ) (n : ℕ) (xs zs : List ℕ) → n ≤ 50 → xs ≡ front (excitedBy p lfe powers) n zs → zs ≡ replicate 50 0
     → ((k : ℕ) → getD powers k 0 ≤ 3492) → (k : ℕ) → getD xs k 0 ≤ 8191
 excites-small p lfe powers n xs zs few e z h =
     array-most (excitedBy p lfe powers) 0 n xs zs few e z 8191 (λ k. omega (arith, excited-most p lfe powers h k)) (omega arith)
@@ -144,7 +144,7 @@ module _ (common : Common) (channel : ChannelRecord) (legal : LegalCodes common 
   excite-at k h =
       let m = a .bands .few in
       a .excites-are k h
-      ∙ ap (λ (s : Leaks). s .excite) (after-same (p .leak) (lfeEnd end) (λ i. getD powers i 0) (bndpsd exp 0 end) (suc k) (λ i l. power-at i (omega arith)))
+      ∙ ap (λ (s : LeakState). s .excite) (after-same (p .leak) (lfeEnd end) (λ i. getD powers i 0) (bndpsd exp 0 end) (suc k) (λ i l. power-at i (omega arith)))
 
   -- a bin below end has the bap that the allocation says
   by-is : (bin : ℕ) → bin < end → bapBy p powers excites added thresholds exp bin ≡ heldBin common channel end exp bin

@@ -14,10 +14,8 @@ use Rattle.tables.specs.Bands.{masktab}
 use Rattle.tables.specs.Entry.{entry}
 use Rattle.tables.specs.Quantizer.{baptab}
 use Rattle.tables.specs.Rules.{baptab-most}
-use Rattle.sheet.specs.Common.{commonOf, channelsOf}
-use Rattle.sheet.specs.Legal.{LegalSheet}
+use Rattle.sheet.specs.Legal.{LegalCommon, LegalRecord}
 use Rattle.sheet.specs.Ranges.{lfeEnd}
-use Rattle.sheet.specs.Record.{recordOf}
 use Rattle.sheet.specs.declared.common_part.Common.{Common}
 use Rattle.sheet.specs.declared.record.ChannelRecord.{ChannelRecord}
 use Rattle.excitation.specs.Psd.{psd}
@@ -96,11 +94,9 @@ module _ (common : Common) (channel : ChannelRecord) (end : ℕ) (exp other : Li
 
 -- ---- legal codes
 
--- the codes of an accepted sheet are legal
-pub codes-legal : (sheet : List ℕ) → LegalSheet sheet → (c : ℕ) → c < channelsOf (commonOf sheet) → LegalCodes (commonOf sheet) (recordOf sheet c)
-codes-legal sheet legal c h =
-    let common = legal .common in
-    let r = legal .record-of c h in
+-- the codes of a legal record are legal
+pub codes-legal : {common : Common} {c : ℕ} {channel : ChannelRecord} → LegalCommon common → LegalRecord common c channel → LegalCodes common channel
+codes-legal common r =
     record {
       fscod = common .fscod;
       sdcycod = common .sdcycod;

@@ -5,10 +5,10 @@ use Rattle.tables.specs.Entry.{entry}
 use Rattle.tables.specs.Parameters.{slowdec, fastdec, slowgain, dbpbtab, floortab, fastgain, signed16}
 use Rattle.sheet.specs.declared.common_part.Common.{Common}
 use Rattle.sheet.specs.declared.record.ChannelRecord.{ChannelRecord}
-use Rattle.excitation.specs.declared.excitation.Leak.{Leak}
+use Rattle.excitation.specs.declared.excitation.LeakParameters.{LeakParameters}
 
 -- sdecay = slowdec[sdcycod], fdecay = fastdec[fdcycod], sgain = slowgain[sgaincod], fgain = fastgain[fgaincod]
-unfoldable pub leakOf : Common → ChannelRecord → Leak
+unfoldable pub leakOf : Common → ChannelRecord → LeakParameters
 leakOf common channel =
     record {
       sdecay = entry slowdec (common .sdcycod);

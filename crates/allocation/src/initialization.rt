@@ -3,13 +3,13 @@ ghost use mathlib.Core.Path.{_≡_};
 ghost use Prim.Native.Nat.{_≤_};
 ghost use Rattle.allocation.specs.Legal.{LegalCodes};
 ghost use Rattle.allocation.specs.Held.{heldFloor, heldOffset, parametersOf};
-use excitation::Leak;
+use excitation::LeakParameters;
 use sheet::ChannelRecord;
 use sheet::Common;
 
 // The floor is 2048 up, the offset 960 up: neither is negative then.
 pub struct Parameters {
-    pub leak: Leak,
+    pub leak: LeakParameters,
     pub dbknee: u32,
     pub floor: u32,
     pub snroffset: u32,
@@ -33,7 +33,7 @@ pub fn initialize(common: Common, channel: ChannelRecord) -> Parameters
     ensures { λ r. ⌜ r ≡ parametersOf common channel ⌝ }
 {
     Parameters {
-        leak: Leak {
+        leak: LeakParameters {
             sdecay: tables::slowdec(common.sdcycod) as u32,
             fdecay: tables::fastdec(common.fdcycod) as u32,
             sgain: tables::slowgain(common.sgaincod) as u32,

@@ -11,8 +11,8 @@ use borrow.Author.Tests.{ltb-true, ltb-false, lt-ltb, le-ltb, le-leb, ne-eqb}
 use Rattle.excitation.specs.Excitation.{calcLowcomp, steppedLowcomp}
 use Rattle.excitation.specs.Held.{nextLowcomp, nextLeak, heldExcite, nextBegun, stepped, after, excitedBy}
 use Rattle.excitation.specs.HeldLaws.{after-more, after-le}
-use Rattle.excitation.specs.declared.excitation.Leak.{Leak}
-use Rattle.excitation.specs.declared.excitation.Leaks.{Leaks}
+use Rattle.excitation.specs.declared.excitation.LeakParameters.{LeakParameters}
+use Rattle.excitation.specs.declared.excitation.LeakState.{LeakState}
 use Rattle.excitation.specs.Front.{front}
 use Rattle.excitation.specs.FrontLaws.{front-more}
 
@@ -74,10 +74,10 @@ unfolding nextBegun
 late-begun true b0 b1 band h = refl
 late-begun false b0 b1 band h = rw (le-leb 6 band h)
 
-module _ (p : Leak) (lfe : Bool) (s : Leaks) (b0 b1 band low fast slow excite : ℕ) where
+module _ (p : LeakParameters) (lfe : Bool) (s : LeakState) (b0 b1 band low fast slow excite : ℕ) where
   pub first-stepped : band < 7 → low ≡ nextLowcomp lfe (s .lowcomp) b0 b1 band → fast ≡ max (cond (s .begun) (s .fastleak) 0 - p .fdecay) (b0 - p .fgain)
       → slow ≡ max (cond (s .begun) (s .slowleak) 0 - p .sdecay) (b0 - p .sgain) → excite ≡ max (fast - low) (cond (s .begun) slow 0)
-      → _≡_ {A = Leaks} (record { lowcomp = low; fastleak = fast; slowleak = slow; excite = excite; begun = nextBegun (s .begun) b0 b1 band }) (stepped p lfe s b0 b1 band)
+      → _≡_ {A = LeakState} (record { lowcomp = low; fastleak = fast; slowleak = slow; excite = excite; begun = nextBegun (s .begun) b0 b1 band }) (stepped p lfe s b0 b1 band)
   unfolding stepped
   first-stepped h el ef es ee =
       let f : fast ≡ nextLeak (s .begun) (s .fastleak) (p .fdecay) b0 (p .fgain) = ef ∙ kept-leak (s .begun) (s .fastleak) (p .fdecay) b0 (p .fgain) in
@@ -87,7 +87,7 @@ module _ (p : Leak) (lfe : Bool) (s : Leaks) (b0 b1 band low fast slow excite : 
 
   pub low-stepped : 7 ≤ band → band < 22 → s .begun ≡ true → low ≡ calcLowcomp (s .lowcomp) b0 b1 band → fast ≡ max (s .fastleak - p .fdecay) (b0 - p .fgain)
       → slow ≡ max (s .slowleak - p .sdecay) (b0 - p .sgain) → excite ≡ max (fast - low) slow
-      → _≡_ {A = Leaks} (record { lowcomp = low; fastleak = fast; slowleak = slow; excite = excite; begun = true }) (stepped p lfe s b0 b1 band)
+      → _≡_ {A = LeakState} (record { lowcomp = low; fastleak = fast; slowleak = slow; excite = excite; begun = true }) (stepped p lfe s b0 b1 band)
   unfolding stepped nextLeak
   low-stepped h g t el ef es ee =
       let x : excite ≡ heldExcite true band fast slow low = ee ∙ kept-excite true band fast slow low g in
@@ -95,7 +95,7 @@ module _ (p : Leak) (lfe : Bool) (s : Leaks) (b0 b1 band low fast slow excite : 
 
   pub high-stepped : 22 ≤ band → s .begun ≡ true → low ≡ s .lowcomp - 128 → fast ≡ max (s .fastleak - p .fdecay) (b0 - p .fgain)
       → slow ≡ max (s .slowleak - p .sdecay) (b0 - p .sgain) → excite ≡ max fast slow
-      → _≡_ {A = Leaks} (record { lowcomp = low; fastleak = fast; slowleak = slow; excite = excite; begun = true }) (stepped p lfe s b0 b1 band)
+      → _≡_ {A = LeakState} (record { lowcomp = low; fastleak = fast; slowleak = slow; excite = excite; begun = true }) (stepped p lfe s b0 b1 band)
   unfolding stepped nextLeak
   high-stepped h t el ef es ee =
       let x : excite ≡ heldExcite true band fast slow low = ee ∙ late-excite band fast slow low h in
@@ -104,35 +104,35 @@ module _ (p : Leak) (lfe : Bool) (s : Leaks) (b0 b1 band low fast slow excite : 
 -- ---- the loops
 
 -- from band 7 on the leaks have begun
-begun-late : (p : Leak) (lfe : Bool) (b : ℕ → ℕ) (k : ℕ) → 7 ≤ k → after p lfe b k .begun ≡ true
+begun-late : (p : LeakParameters) (lfe : Bool) (b : ℕ → ℕ) (k : ℕ) → 7 ≤ k → after p lfe b k .begun ≡ true
 unfolding after stepped
 begun-late p lfe b zero h = absurd (omega arith)
 begun-late p lfe b (suc k) h = late-begun (after p lfe b k .begun) (b k) (b (suc k)) k (omega arith)
 
 -- the bands before the present one have their excitations
-pub record Excited (p : Leak) (lfe : Bool) (powers excites₀ : List ℕ) (leaks : Leaks) (band : ℕ) (excites : List ℕ) : Type 0 where
+pub record Excited (p : LeakParameters) (lfe : Bool) (powers excites₀ : List ℕ) (leaks : LeakState) (band : ℕ) (excites : List ℕ) : Type 0 where
   pub leaks-are : leaks ≡ after p lfe (λ k. getD powers k 0) band
   pub filled : excites ≡ front (excitedBy p lfe powers) band excites₀
   pub long : length excites ≡ 50
 
-pub excited-begun : (p : Leak) (lfe : Bool) (powers excites₀ : List ℕ) (leaks : Leaks) (band : ℕ) (excites : List ℕ)
+pub excited-begun : (p : LeakParameters) (lfe : Bool) (powers excites₀ : List ℕ) (leaks : LeakState) (band : ℕ) (excites : List ℕ)
     → 7 ≤ band → Excited p lfe powers excites₀ leaks band excites → leaks .begun ≡ true
-excited-begun p lfe powers excites₀ leaks band excites h x = ap (λ (s : Leaks). s .begun) (x .leaks-are) ∙ begun-late p lfe (λ k. getD powers k 0) band h
+excited-begun p lfe powers excites₀ leaks band excites h x = ap (λ (s : LeakState). s .begun) (x .leaks-are) ∙ begun-late p lfe (λ k. getD powers k 0) band h
 
 -- the leaks after the present band
-next-leaks : (p : Leak) (lfe : Bool) (powers excites₀ : List ℕ) (leaks leaks' : Leaks) (band : ℕ) (excites : List ℕ)
+next-leaks : (p : LeakParameters) (lfe : Bool) (powers excites₀ : List ℕ) (leaks leaks' : LeakState) (band : ℕ) (excites : List ℕ)
     → Excited p lfe powers excites₀ leaks band excites → leaks' ≡ stepped p lfe leaks (getD powers band 0) (getD powers (band + 1) 0) band
     → leaks' ≡ after p lfe (λ k. getD powers k 0) (band + 1)
 next-leaks p lfe powers excites₀ leaks leaks' band excites x l = l ∙ rw (x .leaks-are) (after-more p lfe (λ k. getD powers k 0) band)
 
 -- its excitation is not above the greatest psd
-pub excited-most : (p : Leak) (lfe : Bool) (powers excites₀ : List ℕ) (leaks leaks' : Leaks) (band : ℕ) (excites : List ℕ)
+pub excited-most : (p : LeakParameters) (lfe : Bool) (powers excites₀ : List ℕ) (leaks leaks' : LeakState) (band : ℕ) (excites : List ℕ)
     → ((k : ℕ) → getD powers k 0 ≤ 8191) → Excited p lfe powers excites₀ leaks band excites
     → leaks' ≡ stepped p lfe leaks (getD powers band 0) (getD powers (band + 1) 0) band → leaks' .excite ≤ 8191
 excited-most p lfe powers excites₀ leaks leaks' band excites h x l =
     rw (next-leaks p lfe powers excites₀ leaks leaks' band excites x l) (after-le p lfe (λ k. getD powers k 0) 8191 h (band + 1) .excite≤)
 
-pub excited-more : (p : Leak) (lfe : Bool) (powers excites₀ : List ℕ) (leaks leaks' : Leaks) (band : ℕ) (excites : List ℕ)
+pub excited-more : (p : LeakParameters) (lfe : Bool) (powers excites₀ : List ℕ) (leaks leaks' : LeakState) (band : ℕ) (excites : List ℕ)
     → length excites₀ ≡ 50 → band < 50 → Excited p lfe powers excites₀ leaks band excites
     → leaks' ≡ stepped p lfe leaks (getD powers band 0) (getD powers (band + 1) 0) band
     → Excited p lfe powers excites₀ leaks' (band + 1) (set excites band (leaks' .excite))
@@ -142,6 +142,6 @@ excited-more p lfe powers excites₀ leaks leaks' band excites n h x l =
     let e : leaks' ≡ after p lfe b (band + 1) = next-leaks p lfe powers excites₀ leaks leaks' band excites x l in
     record {
       leaks-are = e;
-      filled = front-more (excitedBy p lfe powers) band (leaks' .excite) excites excites₀ (omega arith) (x .filled) (ap (λ (s : Leaks). s .excite) (e ∙ ap (after p lfe b) (add-one band)));
+      filled = front-more (excitedBy p lfe powers) band (leaks' .excite) excites excites₀ (omega arith) (x .filled) (ap (λ (s : LeakState). s .excite) (e ∙ ap (after p lfe b) (add-one band)));
       long = length-set excites band (leaks' .excite) ∙ x .long;
     }

@@ -6,7 +6,7 @@ use mathlib.Core.Bool.{Bool, cond, _&&_}
 use lib.Dec.{ltb, leb, eqb}
 use lib.IntN.{ℤ, pos, _-ℤ_}
 use Rattle.excitation.specs.Signed.{maxZ}
-use Rattle.excitation.specs.declared.excitation.Leak.{Leak}
+use Rattle.excitation.specs.declared.excitation.LeakParameters.{LeakParameters}
 
 -- calc_lowcomp (a, b0, b1, bin) below bin 20, where only the step differs: the step where b0 + 256 = b1, else max (0, a - 64) where b0 > b1, else a.
 -- lowcomp is never negative, and `-` stops at 0 as that max does
@@ -43,15 +43,15 @@ leakBy gain decay bndpsd (suc k) =
     cond (ltb (suc k) (begin bndpsd)) (pos (bndpsd (suc k)) -ℤ pos gain)
     (maxZ (leakBy gain decay bndpsd k -ℤ pos decay) (pos (bndpsd (suc k)) -ℤ pos gain))
 
-unfoldable pub fastleak : Leak → (ℕ → ℕ) → ℕ → ℤ
+unfoldable pub fastleak : LeakParameters → (ℕ → ℕ) → ℕ → ℤ
 fastleak p bndpsd band = leakBy (p .fgain) (p .fdecay) bndpsd band
 
-unfoldable pub slowleak : Leak → (ℕ → ℕ) → ℕ → ℤ
+unfoldable pub slowleak : LeakParameters → (ℕ → ℕ) → ℕ → ℤ
 slowleak p bndpsd band = leakBy (p .sgain) (p .sdecay) bndpsd band
 
 -- excite[band]: below begin fastleak - lowcomp (in bands 0 and 1 the standard writes bndpsd - fgain for fastleak), below 22
 -- max (fastleak - lowcomp, slowleak), then max (fastleak, slowleak)
-unfoldable pub excite : Leak → Bool → (ℕ → ℕ) → ℕ → ℤ
+unfoldable pub excite : LeakParameters → Bool → (ℕ → ℕ) → ℕ → ℤ
 excite p lfe bndpsd band =
     cond (ltb band (begin bndpsd)) (fastleak p bndpsd band -ℤ pos (lowcomp lfe bndpsd band))
     (cond (ltb band 22) (maxZ (fastleak p bndpsd band -ℤ pos (lowcomp lfe bndpsd band)) (slowleak p bndpsd band))

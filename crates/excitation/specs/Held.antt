@@ -6,8 +6,8 @@ use mathlib.Core.List.{List}
 use lib.Dec.{ltb, leb, eqb}
 use lib.ListN.{getD}
 use Rattle.excitation.specs.Excitation.{calcLowcomp}
-use Rattle.excitation.specs.declared.excitation.Leak.{Leak}
-use Rattle.excitation.specs.declared.excitation.Leaks.{Leaks}
+use Rattle.excitation.specs.declared.excitation.LeakParameters.{LeakParameters}
+use Rattle.excitation.specs.declared.excitation.LeakState.{LeakState}
 
 -- lowcomp after a band, from a before it
 unfoldable pub nextLowcomp : Bool → ℕ → ℕ → ℕ → ℕ → ℕ
@@ -26,7 +26,7 @@ unfoldable pub nextBegun : Bool → ℕ → ℕ → ℕ → Bool
 nextBegun begun b0 b1 band = begun || (leb 6 band || (leb 2 band && leb b0 b1))
 
 -- what a band leaves to the next one, and its excitation
-unfoldable pub stepped : Leak → Bool → Leaks → ℕ → ℕ → ℕ → Leaks
+unfoldable pub stepped : LeakParameters → Bool → LeakState → ℕ → ℕ → ℕ → LeakState
 stepped p lfe s b0 b1 band =
     let low = nextLowcomp lfe (s .lowcomp) b0 b1 band in
     let fast = nextLeak (s .begun) (s .fastleak) (p .fdecay) b0 (p .fgain) in
@@ -40,14 +40,14 @@ stepped p lfe s b0 b1 band =
     }
 
 -- before the first band
-abbrev pub start : Leaks
+abbrev pub start : LeakState
 start = record { lowcomp = 0; fastleak = 0; slowleak = 0; excite = 0; begun = false }
 
 -- after k bands
-unfoldable pub after : Leak → Bool → (ℕ → ℕ) → ℕ → Leaks
+unfoldable pub after : LeakParameters → Bool → (ℕ → ℕ) → ℕ → LeakState
 after p lfe b zero = start
 after p lfe b (suc k) = stepped p lfe (after p lfe b k) (b k) (b (suc k)) k
 
 -- the excitation of a band, by the psds of the bands as a list
-unfoldable pub excitedBy : Leak → Bool → List ℕ → ℕ → ℕ
+unfoldable pub excitedBy : LeakParameters → Bool → List ℕ → ℕ → ℕ
 excitedBy p lfe powers band = after p lfe (λ k. getD powers k 0) (suc band) .excite

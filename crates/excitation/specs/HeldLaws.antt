@@ -11,11 +11,11 @@ use Rattle.excitation.specs.Excitation.{begin, lowcomp, leakBy, fastleak
 use Rattle.excitation.specs.Signed.{maxZ, hold}
 use Rattle.excitation.specs.SignedLaws.{hold-sub, hold-max}
 use Rattle.excitation.specs.Held.{nextLowcomp, nextLeak, heldExcite, nextBegun, stepped, after}
-use Rattle.excitation.specs.declared.excitation.Leak.{Leak}
-use Rattle.excitation.specs.declared.excitation.Leaks.{Leaks}
+use Rattle.excitation.specs.declared.excitation.LeakParameters.{LeakParameters}
+use Rattle.excitation.specs.declared.excitation.LeakState.{LeakState}
 
 -- one more band, as a loop counts
-pub after-more : (p : Leak) (lfe : Bool) (b : ℕ → ℕ) (k : ℕ) → stepped p lfe (after p lfe b k) (b k) (b (k + 1)) k ≡ after p lfe b (k + 1)
+pub after-more : (p : LeakParameters) (lfe : Bool) (b : ℕ → ℕ) (k : ℕ) → stepped p lfe (after p lfe b k) (b k) (b (k + 1)) k ≡ after p lfe b (k + 1)
 unfolding after
 after-more p lfe b k = rw (add-one k)
 
@@ -99,14 +99,14 @@ module _ (b : ℕ → ℕ) where
       go true e = le-ltb k (begin b) (leb-true (begin b) k e)
       go false e = lt-ltb k (begin b) (leb-false (begin b) k e)
 
-after-begun : (p : Leak) (lfe : Bool) (b : ℕ → ℕ) (k : ℕ) → after p lfe b k .begun ≡ begunBefore b k
+after-begun : (p : LeakParameters) (lfe : Bool) (b : ℕ → ℕ) (k : ℕ) → after p lfe b k .begun ≡ begunBefore b k
 unfolding after stepped begunBefore
 after-begun p lfe b zero = refl
 after-begun p lfe b (suc k) = rw (after-begun p lfe b k)
 
 -- ---- the held values are A/52's
 
-lowcomp-held : (p : Leak) (lfe : Bool) (b : ℕ → ℕ) (k : ℕ) → lowcomp lfe b k ≡ after p lfe b (suc k) .lowcomp
+lowcomp-held : (p : LeakParameters) (lfe : Bool) (b : ℕ → ℕ) (k : ℕ) → lowcomp lfe b k ≡ after p lfe b (suc k) .lowcomp
 unfolding lowcomp after stepped nextLowcomp
 lowcomp-held p true b zero = refl
 lowcomp-held p false b zero = refl
@@ -134,7 +134,7 @@ excite-step true true fast slow low = rw (hold-max (fast -ℤ pos low) slow, hol
 excite-step true false fast slow low = hold-max fast slow
 excite-step false u fast slow low = hold-sub fast low
 
-module _ (p : Leak) (lfe : Bool) (b : ℕ → ℕ) where
+module _ (p : LeakParameters) (lfe : Bool) (b : ℕ → ℕ) where
   fast-held : (k : ℕ) → hold (fastleak p b k) ≡ after p lfe b (suc k) .fastleak
   unfolding fastleak after stepped
   fast-held k = leak-held (p .fgain) (p .fdecay) b (λ n. after p lfe b n .fastleak) (λ n. rw (after-begun p lfe b n)) k
@@ -166,12 +166,12 @@ heldExcite-le true k fast slow low M hf hs = go (ltb k 22)
     go true = omega arith
     go false = omega arith
 
-pub record Bounded (M : ℕ) (s : Leaks) : Type 0 where
+pub record Bounded (M : ℕ) (s : LeakState) : Type 0 where
   pub fast≤ : s .fastleak ≤ M
   pub slow≤ : s .slowleak ≤ M
   pub excite≤ : s .excite ≤ M
 
-pub after-le : (p : Leak) (lfe : Bool) (b : ℕ → ℕ) (M : ℕ) → ((k : ℕ) → b k ≤ M) → (k : ℕ) → Bounded M (after p lfe b k)
+pub after-le : (p : LeakParameters) (lfe : Bool) (b : ℕ → ℕ) (M : ℕ) → ((k : ℕ) → b k ≤ M) → (k : ℕ) → Bounded M (after p lfe b k)
 unfolding after stepped
 after-le p lfe b M h zero = record { fast≤ = omega arith; slow≤ = omega arith; excite≤ = omega arith }
 after-le p lfe b M h (suc k) =
@@ -183,7 +183,7 @@ after-le p lfe b M h (suc k) =
 
 -- ---- band k depends on the psds of bands 0 to k + 1 only
 
-module _ (p : Leak) (lfe : Bool) (b c : ℕ → ℕ) where
+module _ (p : LeakParameters) (lfe : Bool) (b c : ℕ → ℕ) where
   pub after-same : (k : ℕ) → ((i : ℕ) → i ≤ k → b i ≡ c i) → after p lfe b k ≡ after p lfe c k
   unfolding after
   after-same zero h = refl
@@ -191,11 +191,11 @@ module _ (p : Leak) (lfe : Bool) (b c : ℕ → ℕ) where
 
   below-same : (k : ℕ) → ((i : ℕ) → i ≤ k → b i ≡ c i) → ltb k (begin b) ≡ ltb k (begin c)
   below-same k h =
-      let e : begunBefore b k ≡ begunBefore c k = sym (after-begun p lfe b k) ∙ ap (λ (s : Leaks). s .begun) (after-same k h) ∙ after-begun p lfe c k in
+      let e : begunBefore b k ≡ begunBefore c k = sym (after-begun p lfe b k) ∙ ap (λ (s : LeakState). s .begun) (after-same k h) ∙ after-begun p lfe c k in
       below-begin b k ∙ ap not e ∙ sym (below-begin c k)
 
   lowcomp-same : (k : ℕ) → ((i : ℕ) → i ≤ suc k → b i ≡ c i) → lowcomp lfe b k ≡ lowcomp lfe c k
-  lowcomp-same k h = lowcomp-held p lfe b k ∙ ap (λ (s : Leaks). s .lowcomp) (after-same (suc k) h) ∙ sym (lowcomp-held p lfe c k)
+  lowcomp-same k h = lowcomp-held p lfe b k ∙ ap (λ (s : LeakState). s .lowcomp) (after-same (suc k) h) ∙ sym (lowcomp-held p lfe c k)
 
   leak-same : (gain decay k : ℕ) → ((i : ℕ) → i ≤ k → b i ≡ c i) → leakBy gain decay b k ≡ leakBy gain decay c k
   unfolding leakBy

@@ -9,7 +9,7 @@ use crate::number::less;
 use crate::number::most;
 
 // Four parameters of A/52 7.2.2.1.
-pub struct Leak {
+pub struct LeakParameters {
     pub sdecay: u32,
     pub fdecay: u32,
     pub sgain: u32,
@@ -17,7 +17,7 @@ pub struct Leak {
 }
 
 // What a band leaves to the next one, and its excitation. `begun`: the next band is at `begin` or past it.
-pub struct Leaks {
+pub struct LeakState {
     pub lowcomp: u32,
     pub fastleak: u32,
     pub slowleak: u32,
@@ -26,10 +26,10 @@ pub struct Leaks {
 }
 
 // Before the first band.
-pub fn begin_leaks() -> Leaks
+pub fn begin_leaks() -> LeakState
     ensures { λ r. ⌜ r ≡ start ⌝ }
 {
-    Leaks {
+    LeakState {
         lowcomp: 0,
         fastleak: 0,
         slowleak: 0,
@@ -75,7 +75,14 @@ fn first_lowcomp(lfe: bool, a: u32, b0: u32, b1: u32, band: usize) -> u32
 }
 
 // The leaks after one of the bands 0 to 6.
-pub fn first_leaks(p: Leak, lfe: bool, leaks: Leaks, b0: u32, b1: u32, band: usize) -> Leaks
+pub fn first_leaks(
+    p: LeakParameters,
+    lfe: bool,
+    leaks: LeakState,
+    b0: u32,
+    b1: u32,
+    band: usize,
+) -> LeakState
     requires { ⌜ (b0 ≤ 8191) × (b1 ≤ 8191) × (band < 7) ⌝ }
     ensures { λ r. ⌜ r ≡ stepped p lfe leaks b0 b1 band ⌝ }
 {
@@ -83,7 +90,7 @@ pub fn first_leaks(p: Leak, lfe: bool, leaks: Leaks, b0: u32, b1: u32, band: usi
     let fast = leak_step(kept(leaks.begun, leaks.fastleak), p.fdecay, b0, p.fgain);
     let slow = leak_step(kept(leaks.begun, leaks.slowleak), p.sdecay, b0, p.sgain);
     let excite = most(less(fast, low), kept(leaks.begun, slow));
-    Leaks {
+    LeakState {
         lowcomp: low,
         fastleak: fast,
         slowleak: slow,
@@ -103,7 +110,14 @@ fn low_lowcomp(a: u32, b0: u32, b1: u32, band: usize) -> u32
 }
 
 // The leaks after one of the bands 7 to 21.
-pub fn low_leaks(p: Leak, lfe: bool, leaks: Leaks, b0: u32, b1: u32, band: usize) -> Leaks
+pub fn low_leaks(
+    p: LeakParameters,
+    lfe: bool,
+    leaks: LeakState,
+    b0: u32,
+    b1: u32,
+    band: usize,
+) -> LeakState
     requires { ⌜ (b0 ≤ 8191) × (b1 ≤ 8191) × (7 ≤ band) × (band < 22) × (leaks .begun ≡ true) ⌝ }
     ensures { λ r. ⌜ r ≡ stepped p lfe leaks b0 b1 band ⌝ }
 {
@@ -111,7 +125,7 @@ pub fn low_leaks(p: Leak, lfe: bool, leaks: Leaks, b0: u32, b1: u32, band: usize
     let fast = leak_step(leaks.fastleak, p.fdecay, b0, p.fgain);
     let slow = leak_step(leaks.slowleak, p.sdecay, b0, p.sgain);
     let excite = most(less(fast, low), slow);
-    Leaks {
+    LeakState {
         lowcomp: low,
         fastleak: fast,
         slowleak: slow,
@@ -121,14 +135,21 @@ pub fn low_leaks(p: Leak, lfe: bool, leaks: Leaks, b0: u32, b1: u32, band: usize
 }
 
 // The leaks after a band from 22 on, whatever the next one is.
-pub fn high_leaks(p: Leak, lfe: bool, leaks: Leaks, b0: u32, b1: u32, band: usize) -> Leaks
+pub fn high_leaks(
+    p: LeakParameters,
+    lfe: bool,
+    leaks: LeakState,
+    b0: u32,
+    b1: u32,
+    band: usize,
+) -> LeakState
     requires { ⌜ (22 ≤ band) × (leaks .begun ≡ true) ⌝ }
     ensures { λ r. ⌜ r ≡ stepped p lfe leaks b0 b1 band ⌝ }
 {
     let low = less(leaks.lowcomp, 128);
     let fast = leak_step(leaks.fastleak, p.fdecay, b0, p.fgain);
     let slow = leak_step(leaks.slowleak, p.sdecay, b0, p.sgain);
-    Leaks {
+    LeakState {
         lowcomp: low,
         fastleak: fast,
         slowleak: slow,

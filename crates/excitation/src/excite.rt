@@ -6,15 +6,15 @@ ghost use lib.ListN.{getD, length, take};
 ghost use Rattle.bits.specs.Parts.{tab};
 ghost use Rattle.excitation.specs.Front.{front};
 ghost use Rattle.excitation.specs.Held.{after, excitedBy};
-use crate::excitation::Leak;
-use crate::excitation::Leaks;
+use crate::excitation::LeakParameters;
+use crate::excitation::LeakState;
 use crate::excitation::begin_leaks;
 use crate::excitation::first_leaks;
 use crate::excitation::high_leaks;
 use crate::excitation::low_leaks;
 
 // Bands 0 to 2: before band 3 no leak has begun. Two short loops, so that they can be written out by the compiler.
-fn excite_start(p: Leak, lfe: bool, powers: &[u16; 51], excites: &mut [u16]) -> Leaks
+fn excite_start(p: LeakParameters, lfe: bool, powers: &[u16; 51], excites: &mut [u16]) -> LeakState
     requires { ⌜ (length (now powers) ≡ 51) × (length (now excites) ≡ 50) ⌝ }
     requires { ⌜ ((k : ℕ) → getD (now powers) k 0 ≤ 8191) ⌝ }
     ensures { λ r. ⌜ r ≡ after p lfe (λ k. getD (now (powers .entry)) k 0) 3 ⌝ }
@@ -38,7 +38,13 @@ fn excite_start(p: Leak, lfe: bool, powers: &[u16; 51], excites: &mut [u16]) -> 
 }
 
 // Bands 3 to 6.
-fn excite_first(p: Leak, lfe: bool, powers: &[u16; 51], leaks: Leaks, excites: &mut [u16]) -> Leaks
+fn excite_first(
+    p: LeakParameters,
+    lfe: bool,
+    powers: &[u16; 51],
+    leaks: LeakState,
+    excites: &mut [u16],
+) -> LeakState
     requires { ⌜ (length (now powers) ≡ 51) × (length (now excites) ≡ 50) ⌝ }
     requires { ⌜ ((k : ℕ) → getD (now powers) k 0 ≤ 8191) ⌝ }
     requires { ⌜ leaks ≡ after p lfe (λ k. getD (now powers) k 0) 3 ⌝ }
@@ -64,7 +70,13 @@ fn excite_first(p: Leak, lfe: bool, powers: &[u16; 51], leaks: Leaks, excites: &
 }
 
 // Bands 7 to 21.
-fn excite_low(p: Leak, lfe: bool, powers: &[u16; 51], leaks: Leaks, excites: &mut [u16]) -> Leaks
+fn excite_low(
+    p: LeakParameters,
+    lfe: bool,
+    powers: &[u16; 51],
+    leaks: LeakState,
+    excites: &mut [u16],
+) -> LeakState
     requires { ⌜ (length (now powers) ≡ 51) × (length (now excites) ≡ 50) ⌝ }
     requires { ⌜ ((k : ℕ) → getD (now powers) k 0 ≤ 8191) ⌝ }
     requires { ⌜ leaks ≡ after p lfe (λ k. getD (now powers) k 0) 7 ⌝ }
@@ -91,11 +103,11 @@ fn excite_low(p: Leak, lfe: bool, powers: &[u16; 51], leaks: Leaks, excites: &mu
 
 // Bands from 22 on.
 fn excite_high(
-    p: Leak,
+    p: LeakParameters,
     lfe: bool,
     powers: &[u16; 51],
     bands: usize,
-    leaks: Leaks,
+    leaks: LeakState,
     excites: &mut [u16],
 )
     requires { ⌜ (22 ≤ bands) × (bands ≤ 50) × (length (now powers) ≡ 51) × (length (now excites) ≡ 50) ⌝ }
@@ -121,7 +133,13 @@ fn excite_high(
 }
 
 // The excitations of the first bands; a channel has 7 of them or more than 22.
-pub fn excite_bands(p: Leak, lfe: bool, powers: &[u16; 51], bands: usize, excites: &mut [u16])
+pub fn excite_bands(
+    p: LeakParameters,
+    lfe: bool,
+    powers: &[u16; 51],
+    bands: usize,
+    excites: &mut [u16],
+)
     requires { ⌜ (bands ≤ 50) × (bands < 22 → bands ≡ 7) ⌝ }
     requires { ⌜ (length (now powers) ≡ 51) × (length (now excites) ≡ 50) ⌝ }
     requires { ⌜ ((k : ℕ) → getD (now powers) k 0 ≤ 8191) ⌝ }

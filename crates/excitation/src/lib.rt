@@ -5,7 +5,7 @@ pub mod excite;
 pub mod number;
 pub mod psd_integration;
 
-pub use excitation::Leak;
+pub use excitation::LeakParameters;
 pub use excite::excite_bands;
 pub use psd_integration::SINGLES;
 pub use psd_integration::band_end;

@@ -8,7 +8,7 @@ use lib.Dec.{leb}
 use lib.ListN.{length, take, drop, replicate, take-append-drop, length-drop}
 use lib.Seq.{length-take-le}
 use borrow.Author.Tests.{leb-true, le-leb, lt-leb}
-use Rattle.bits.specs.Answer.{gives, turnedBack}
+use Rattle.bits.specs.Answer.{gives, refused}
 use Rattle.bits.specs.Bytes.{bytesFor}
 use Rattle.bits.specs.Read.{from}
 use Rattle.bits.specs.Reading.{ok, fault}
@@ -39,21 +39,21 @@ pub bits-counted : (exp : List ℕ) (end span : ℕ) → end ≤ length exp → 
 bits-counted exp end span h = length-exponentBits span (take end exp) ∙ ap (λ (n : ℕ). 4 + 7 * groupCount n span) (length-take-le end exp h)
 
 module _ (exp : List ℕ) (end span size : ℕ) where
-  pub written-range : inRange end span ≡ false → turnedBack refusal.outOfRange ≡ exponentsWritten exp end span size
+  pub written-range : inRange end span ≡ false → refused refusal.outOfRange ≡ exponentsWritten exp end span size
   unfolding exponentsWritten
   written-range a = rw a
 
-  pub written-length : inRange end span ≡ true → rightLength end (length exp) ≡ false → turnedBack refusal.wrongLength ≡ exponentsWritten exp end span size
+  pub written-length : inRange end span ≡ true → rightLength end (length exp) ≡ false → refused refusal.wrongLength ≡ exponentsWritten exp end span size
   unfolding exponentsWritten
   written-length a b = rw (a, b)
 
   pub written-shape : inRange end span ≡ true → rightLength end (length exp) ≡ true → shapedFor (span - 1) (take end exp) ≡ false
-      → turnedBack refusal.badExponent ≡ exponentsWritten exp end span size
+      → refused refusal.badExponent ≡ exponentsWritten exp end span size
   unfolding exponentsWritten
   written-shape a b d = rw (a, b, d)
 
   pub written-room : inRange end span ≡ true → rightLength end (length exp) ≡ true → shapedFor (span - 1) (take end exp) ≡ true
-      → size < bytesFor (4 + 7 * groupCount end span) → turnedBack refusal.noRoom ≡ exponentsWritten exp end span size
+      → size < bytesFor (4 + 7 * groupCount end span) → refused refusal.noRoom ≡ exponentsWritten exp end span size
   unfolding exponentsWritten
   written-room a b d e =
       let n = bits-counted exp end span (length-parts end (length exp) b .1) in
@@ -69,17 +69,17 @@ module _ (exp : List ℕ) (end span size : ℕ) where
 -- ---- the reader
 
 module _ (bits : List Bool) (end span : ℕ) (exp : List ℕ) where
-  pub read-range : inRange end span ≡ false → (turnedBack refusal.outOfRange ≡ exponentsRead bits end span (length exp)) × (exp ≡ exponentsLeft bits end span exp)
+  pub read-range : inRange end span ≡ false → (refused refusal.outOfRange ≡ exponentsRead bits end span (length exp)) × (exp ≡ exponentsLeft bits end span exp)
   unfolding exponentsRead exponentsLeft
   read-range a = (rw a, rw a)
 
   pub read-length : inRange end span ≡ true → rightLength end (length exp) ≡ false
-      → (turnedBack refusal.wrongLength ≡ exponentsRead bits end span (length exp)) × (exp ≡ exponentsLeft bits end span exp)
+      → (refused refusal.wrongLength ≡ exponentsRead bits end span (length exp)) × (exp ≡ exponentsLeft bits end span exp)
   unfolding exponentsRead exponentsLeft
   read-length a b = (rw (a, b), rw (a, b))
 
   pub read-fault : (number : ℕ) → inRange end span ≡ true → rightLength end (length exp) ≡ true → readExponents end span bits ≡ fault number
-      → (turnedBack number ≡ exponentsRead bits end span (length exp)) × (replicate (length exp) 0 ≡ exponentsLeft bits end span exp)
+      → (refused number ≡ exponentsRead bits end span (length exp)) × (replicate (length exp) 0 ≡ exponentsLeft bits end span exp)
   unfolding exponentsRead exponentsLeft bitsRead entriesOf
   read-fault number a b e = (rw (a, b, e), rw (a, b, e))
 

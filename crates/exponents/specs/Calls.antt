@@ -5,7 +5,7 @@ use mathlib.Core.List.{List, _++_}
 use Prim.Native.Nat.{ℕ, _-_}
 use lib.Dec.{leb}
 use lib.ListN.{length, take, replicate}
-use Rattle.bits.specs.Answer.{gives, turnedBack}
+use Rattle.bits.specs.Answer.{gives, refused}
 use Rattle.bits.specs.Bytes.{bytesFor}
 use Rattle.bits.specs.Reading.{Outcome, ok, fault}
 use Rattle.bits.specs.Refusal as refusal
@@ -19,7 +19,7 @@ use Rattle.exponents.specs.Reading.{readExponents}
 -- a test that must hold, else the call is turned back with the number
 abbrev pub must : Bool → ℕ → Answer → Answer
 must true number answer = answer
-must false number answer = turnedBack number
+must false number answer = refused number
 
 -- what both calls take: "only ends that a sheet may hold; any other is 2", and so is another span than 1, 2 or 4
 abbrev pub inRange : ℕ → ℕ → Bool
@@ -41,7 +41,7 @@ exponentsWritten exp end span size =
 -- how many of these bits were read, or the fault's number
 unfoldable pub bitsRead : List Bool → Outcome (List ℕ) → Answer
 bitsRead bits (ok exps rest) = gives (length bits - length rest)
-bitsRead bits (fault number) = turnedBack number
+bitsRead bits (fault number) = refused number
 
 -- the reader's answer; entries is the length of the slice for the exponents
 unfoldable pub exponentsRead : List Bool → ℕ → ℕ → ℕ → Answer

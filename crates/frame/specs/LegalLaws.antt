@@ -14,7 +14,9 @@ use Rattle.shaping.specs.ShapedLaws.{shaped-yes}
 use Rattle.shaping.specs.Greatest.{Shaped}
 use Rattle.sheet.specs.Tests.{all-below}
 use Rattle.sheet.specs.declared.record.ExponentSet.the-variants.{Reuse, New}
-use Rattle.frame.specs.Layout.{channels, endAt, setAt, rowOf, cleanRow}
+use Rattle.sheet.specs.Settings.{channels, endAt, setAt}
+use Rattle.sheet.specs.declared.settings.Settings.{Settings}
+use Rattle.frame.specs.Layout.{rowOf, cleanRow}
 use Rattle.frame.specs.Body.{bapRow}
 use Rattle.frame.specs.Reader.{earlier}
 use Rattle.frame.specs.Legal.{alike, partLegal, rowLegal, expsLegal, codesLegal}
@@ -52,26 +54,26 @@ part-shaped span end old part h = shaped-yes (span - 1) (take end part) h
 -- ---- a legal frame
 
 -- the exponents of each block
-pub legal-row : (sheet exps : List ℕ) → expsLegal sheet exps ≡ true → (b : ℕ) → b < 6
-    → rowLegal sheet b (earlier sheet exps b) (rowOf sheet b exps) ≡ true
+pub legal-row : (settings : Settings) (exps : List ℕ) → expsLegal settings exps ≡ true → (b : ℕ) → b < 6
+    → rowLegal settings b (earlier settings exps b) (rowOf settings b exps) ≡ true
 unfolding expsLegal
-legal-row sheet exps legal b hb = all-below 6 (λ b. rowLegal sheet b (earlier sheet exps b) (rowOf sheet b exps)) legal b hb
+legal-row settings exps legal b hb = all-below 6 (λ b. rowLegal settings b (earlier settings exps b) (rowOf settings b exps)) legal b hb
 
 -- each part of a block
-pub part-of-row : (sheet : List ℕ) (b : ℕ) (old row : List ℕ) → rowLegal sheet b old row ≡ true → (c : ℕ) → c < channels sheet
-    → partLegal (setAt sheet b c) (endAt sheet c) (piece 256 c old) (piece 256 c row) ≡ true
+pub part-of-row : (settings : Settings) (b : ℕ) (old row : List ℕ) → rowLegal settings b old row ≡ true → (c : ℕ) → c < channels settings
+    → partLegal (setAt settings b c) (endAt settings c) (piece 256 c old) (piece 256 c row) ≡ true
 unfolding rowLegal
-part-of-row sheet b old row legal c hc =
-    all-below (channels sheet) (λ c. partLegal (setAt sheet b c) (endAt sheet c) (piece 256 c old) (piece 256 c row)) legal c hc
+part-of-row settings b old row legal c hc =
+    all-below (channels settings) (λ c. partLegal (setAt settings b c) (endAt settings c) (piece 256 c old) (piece 256 c row)) legal c hc
 
 -- each part of each block
-pub legal-part : (sheet exps : List ℕ) → expsLegal sheet exps ≡ true → (b c : ℕ) → b < 6 → c < channels sheet
-    → partLegal (setAt sheet b c) (endAt sheet c) (piece 256 c (earlier sheet exps b)) (piece 256 c (rowOf sheet b exps)) ≡ true
-legal-part sheet exps legal b c hb hc = part-of-row sheet b (earlier sheet exps b) (rowOf sheet b exps) (legal-row sheet exps legal b hb) c hc
+pub legal-part : (settings : Settings) (exps : List ℕ) → expsLegal settings exps ≡ true → (b c : ℕ) → b < 6 → c < channels settings
+    → partLegal (setAt settings b c) (endAt settings c) (piece 256 c (earlier settings exps b)) (piece 256 c (rowOf settings b exps)) ≡ true
+legal-part settings exps legal b c hb hc = part-of-row settings b (earlier settings exps b) (rowOf settings b exps) (legal-row settings exps legal b hb) c hc
 
 -- the codes of each block
-pub legal-codes : (sheet exps codes : List ℕ) → codesLegal sheet exps codes ≡ true → (b : ℕ) → b < 6
-    → Coded (bapRow sheet (rowOf sheet b exps)) (cleanRow sheet (rowOf sheet b codes))
+pub legal-codes : (settings : Settings) (exps codes : List ℕ) → codesLegal settings exps codes ≡ true → (b : ℕ) → b < 6
+    → Coded (bapRow settings (rowOf settings b exps)) (cleanRow settings (rowOf settings b codes))
 unfolding codesLegal
-legal-codes sheet exps codes legal b hb =
-    coded-true _ _ (all-below 6 (λ b. coded (bapRow sheet (rowOf sheet b exps)) (cleanRow sheet (rowOf sheet b codes))) legal b hb)
+legal-codes settings exps codes legal b hb =
+    coded-true _ _ (all-below 6 (λ b. coded (bapRow settings (rowOf settings b exps)) (cleanRow settings (rowOf settings b codes))) legal b hb)

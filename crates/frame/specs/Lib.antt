@@ -4,7 +4,7 @@ pub mod Body
 pub mod Reader
 pub mod Legal
 pub mod Answers
--- Then what follows from it: what the frame's functions hold of an accepted sheet, the laws, and demand 3.
+-- Then what follows from it: what the frame's functions use of legal settings, the laws, and demand 3.
 pub mod Under
 pub mod LayoutLaws
 pub mod BodyLaws

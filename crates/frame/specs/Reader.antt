@@ -10,7 +10,9 @@ use Rattle.exponents.specs.Reading.{readExponents}
 use Rattle.mantissas.specs.Stream.{readStream}
 use Rattle.sheet.specs.declared.record.ExponentSet.{ExponentSet}
 use Rattle.sheet.specs.declared.record.ExponentSet.the-variants.{Reuse, New}
-use Rattle.frame.specs.Layout.{channels, endAt, setAt, rowOf, cleanRow}
+use Rattle.sheet.specs.Settings.{channels, endAt, setAt}
+use Rattle.sheet.specs.declared.settings.Settings.{Settings}
+use Rattle.frame.specs.Layout.{rowOf, cleanRow}
 use Rattle.frame.specs.Body.{bapRow}
 
 -- a channel's exponents in a block: a new set is read, reuse repeats the part of the block before (`old`)
@@ -19,8 +21,8 @@ readPart Reuse end old bits = ok old bits
 readPart (New span) end old bits = then (readExponents end span bits) (λ exps rest. ok (exps ++ replicate (256 - end) 0) rest)
 
 -- the exponents of block b, after the row `old` of the block before
-unfoldable pub readSets : List ℕ → ℕ → List ℕ → List Bool → Outcome (List ℕ)
-readSets sheet b old bits = gather (λ c. readPart (setAt sheet b c) (endAt sheet c) (piece 256 c old)) (channels sheet) bits
+unfoldable pub readSets : Settings → ℕ → List ℕ → List Bool → Outcome (List ℕ)
+readSets settings b old bits = gather (λ c. readPart (setAt settings b c) (endAt settings c) (piece 256 c old)) (channels settings) bits
 
 -- what the blocks so far gave: three buffers and the counts; `row` is the row of exponents that a reuse block repeats
 pub record Frame : Type 0 where
@@ -44,21 +46,21 @@ grown s row bap codes e m =
     }
 
 -- block b: its sets, then its mantissas by the bap that is worked out from the exponents just read
-unfoldable pub readBlock : List ℕ → ℕ → Frame → List Bool → Outcome Frame
-readBlock sheet b s bits =
-    then (readSets sheet b (s .row) bits) (λ row r.
-    then (readStream (bapRow sheet row) r) (λ codes u.
-    ok (grown s row (bapRow sheet row) codes (length bits - length r) (length r - length u)) u))
+unfoldable pub readBlock : Settings → ℕ → Frame → List Bool → Outcome Frame
+readBlock settings b s bits =
+    then (readSets settings b (s .row) bits) (λ row r.
+    then (readStream (bapRow settings row) r) (λ codes u.
+    ok (grown s row (bapRow settings row) codes (length bits - length r) (length r - length u)) u))
 
 -- before block 0: nothing is read
-unfoldable pub nothing : List ℕ → Frame
-nothing sheet = record { exps = []; bap = []; codes = []; row = replicate (256 * channels sheet) 0; exponentBits = []; mantissaBits = [] }
+unfoldable pub nothing : Settings → Frame
+nothing settings = record { exps = []; bap = []; codes = []; row = replicate (256 * channels settings) 0; exponentBits = []; mantissaBits = [] }
 
 -- the six blocks
-unfoldable pub readFrame : List ℕ → List Bool → Outcome Frame
-readFrame sheet bits = steps (readBlock sheet) 6 (nothing sheet) bits
+unfoldable pub readFrame : Settings → List Bool → Outcome Frame
+readFrame settings bits = steps (readBlock settings) 6 (nothing settings) bits
 
 -- the exponents that a reuse block b repeats: those of the block before, below each end; block 0 is never reuse and has zeros there
-unfoldable pub earlier : List ℕ → List ℕ → ℕ → List ℕ
-earlier sheet exps zero = replicate (256 * channels sheet) 0
-earlier sheet exps (suc b) = cleanRow sheet (rowOf sheet b exps)
+unfoldable pub earlier : Settings → List ℕ → ℕ → List ℕ
+earlier settings exps zero = replicate (256 * channels settings) 0
+earlier settings exps (suc b) = cleanRow settings (rowOf settings b exps)

@@ -1,62 +1,39 @@
--- What the frame's functions hold by value of an accepted sheet (document 01, "The track sheet"), and what is known of each of its channels.
+-- What the frame's functions use of legal settings (document 01, "The track sheet"): what is known of each channel and of each of its blocks.
 use Prim.Native.Nat.{ℕ, _≤_, _<_}
 use mathlib.Core.Path.{_≡_, refl, ap}
 use mathlib.Core.Bool.{true}
 use mathlib.Core.List.{List}
-use native.Mathlib.Omega.{arith}
-use lib.ListN.{getD}
-use Rattle.bits.specs.Refusal as refusal
 use Rattle.allocation.specs.Legal.{LegalCodes}
 use Rattle.allocation.specs.AllocationLaws.{codes-legal}
 use Rattle.shaping.specs.Passes.{isSpan}
-use Rattle.sheet.specs.Common.{commonOf, channelsOf}
-use Rattle.sheet.specs.Laws.{legal-sheet, reuse-not-new, same-span, every-set, first-set}
+use Rattle.sheet.specs.LegalSettings.{isSet, LegalSettings}
 use Rattle.sheet.specs.Ranges.{legalEnd}
-use Rattle.sheet.specs.Record.{endsOf, recordOf, strategiesOf, setIn}
-use Rattle.sheet.specs.Sheet.{checkOf}
+use Rattle.sheet.specs.Settings.{channels, recordAt, endAt, strategiesOf, setIn, setAt}
+use Rattle.sheet.specs.SettingsLaws.{record-known, first-known, end-legal}
 use Rattle.sheet.specs.declared.record.BlockSet.{BlockSet}
 use Rattle.sheet.specs.declared.record.ExponentSet.{ExponentSet}
 use Rattle.sheet.specs.declared.record.ExponentSet.the-variants.{Reuse, New}
-use Rattle.frame.specs.Layout.{channels, endAt, setAt, bySet}
-use Rattle.frame.specs.declared.track.Track.{Track}
+use Rattle.sheet.specs.declared.settings.Settings.{Settings}
+use Rattle.frame.specs.Layout.{bySet}
 
--- the number of channels and the end of each
-abbrev pub trackOf : List ℕ → Track
-trackOf sheet = record { channels = channelsOf (commonOf sheet); ends = endsOf sheet }
+-- one of the channels of legal settings
+pub record Channel (settings : Settings) (c : ℕ) : Type 0 where
+  pub legal : legalEnd (endAt settings c) ≡ true
+  pub end-least : 7 ≤ endAt settings c
+  pub end-most : endAt settings c ≤ 253
+  pub first : setAt settings 0 c ≡ Reuse → ⊥
+  pub codes : LegalCodes (settings .common) (recordAt settings c)
 
--- the sheet is accepted, and these are its values
-pub record Under (sheet : List ℕ) (track : Track) (strategies : List (List BlockSet)) : Type 0 where
-  pub accepted : checkOf sheet ≡ refusal.accepted
-  pub by-value : track ≡ trackOf sheet
-  pub table : strategies ≡ strategiesOf sheet
-
--- one of the channels of an accepted sheet
-pub record Channel (sheet : List ℕ) (c : ℕ) : Type 0 where
-  pub legal : legalEnd (endAt sheet c) ≡ true
-  pub end-least : 7 ≤ endAt sheet c
-  pub end-most : endAt sheet c ≤ 253
-  pub first : setAt sheet 0 c ≡ Reuse → ⊥
-  pub codes : LegalCodes (commonOf sheet) (recordOf sheet c)
-
--- ---- what an accepted sheet says
-
-pub channel-known : (sheet : List ℕ) → checkOf sheet ≡ refusal.accepted → (c : ℕ) → c < channels sheet → Channel sheet c
-unfolding channels endAt setAt
-channel-known sheet h c l =
-    let legal = legal-sheet sheet h in
-    let e = legal .end-of c l in
+pub channel-known : (settings : Settings) → LegalSettings settings → (c : ℕ) → c < channels settings → Channel settings c
+channel-known settings under c l =
+    let e = end-legal under c l in
     record {
       legal = e .legal;
       end-least = e .bounds .least;
       end-most = e .bounds .most;
-      first = first-set sheet h c l;
-      codes = codes-legal sheet legal c l;
+      first = first-known under c l;
+      codes = codes-legal (under .common) (record-known under c l);
     }
-
--- how many channels an accepted sheet has
-pub channels-some : (sheet : List ℕ) → checkOf sheet ≡ refusal.accepted → (1 ≤ channels sheet) × (channels sheet ≤ 6)
-unfolding channels
-channels-some sheet h = let legal = legal-sheet sheet h in (legal .common .channels-least, legal .common .channels-most)
 
 -- ---- reuse, or a new set with its span
 
@@ -64,15 +41,9 @@ channels-some sheet h = let legal = legal-sheet sheet h in (legal .common .chann
 pub record KnownSet (set : ExponentSet) : Type 0 where
   pub known : (span : ℕ) → set ≡ New span → isSpan span ≡ true
 
-pub known-set : (sheet : List ℕ) (b c : ℕ) → KnownSet (setAt sheet b c)
-unfolding setAt
-known-set sheet b c = every-set KnownSet none (one 1 refl) (one 2 refl) (one 4 refl) sheet c b
-  where
-    one : (n : ℕ) → isSpan n ≡ true → KnownSet (New n)
-    one n h = record { known = λ span e. rw (same-span e) at h }
-
-    none : KnownSet Reuse
-    none = record { known = λ span e. absurd (reuse-not-new e) }
+pub known-set : (settings : Settings) → LegalSettings settings → (b c : ℕ) → KnownSet (setAt settings b c)
+unfolding isSet
+known-set settings under b c = record { known = λ span e. rw e at (under .sets b c) }
 
 -- either of the two
 pub one-of-two : {X : Type 0} (set : ExponentSet) → (set ≡ Reuse → X) → ((span : ℕ) → set ≡ New span → X) → X
@@ -89,31 +60,16 @@ module _ {A : Type 0} {set : ExponentSet} (reused : A) (new : ℕ → A) where
   unfolding bySet
   by-new span e = rw e
 
--- ---- what is held by value
+-- ---- the table of all channels' strategies, held by value beside the settings
 
--- what is held by value is what the definitions say
-module _ {sheet : List ℕ} {track : Track} {strategies : List (List BlockSet)} (u : Under sheet track strategies) where
-  pub held-channels : track .channels ≡ channels sheet
-  unfolding channels
-  held-channels = ap (λ (t : Track). t .channels) (u .by-value)
+pub record Under (settings : Settings) (strategies : List (List BlockSet)) : Type 0 where
+  pub legal : LegalSettings settings
+  pub table : strategies ≡ strategiesOf settings
 
-  pub held-end : (c : ℕ) → getD (track .ends) c 0 ≡ endAt sheet c
-  unfolding endAt
-  held-end c = ap (λ (t : Track). getD (t .ends) c 0) (u .by-value)
-
-  pub held-set : (b c : ℕ) → setIn strategies c b ≡ setAt sheet b c
+module _ {settings : Settings} {strategies : List (List BlockSet)} (u : Under settings strategies) where
+  pub held-set : (b c : ℕ) → setIn strategies c b ≡ setAt settings b c
   unfolding setAt
   held-set b c = ap (λ (t : List (List BlockSet)). setIn t c b) (u .table)
 
-  -- and what is known of a channel whose number is below the count that is held
-  pub held-below : (c : ℕ) → c < track .channels → c < channels sheet
-  held-below c h = omega (arith, held-channels)
-
-  pub held-channel : (c : ℕ) → c < track .channels → Channel sheet c
-  held-channel c h = channel-known sheet (u .accepted) c (held-below c h)
-
-  pub held-legal : (c : ℕ) → c < track .channels → legalEnd (getD (track .ends) c 0) ≡ true
-  held-legal c h = rw (held-end c) (held-channel c h .legal)
-
   pub held-known : (b c : ℕ) {set : ExponentSet} → set ≡ setIn strategies c b → KnownSet set
-  held-known b c e = rw (e, held-set b c) (known-set sheet b c)
+  held-known b c e = rw (e, held-set b c) (known-set settings (u .legal) b c)

@@ -2,21 +2,26 @@
 ghost use mathlib.Core.Path.{_≡_};
 ghost use Prim.Native.Nat.{_*_};
 ghost use lib.ListN.{length, take};
-ghost use Rattle.mantissas.specs.Inner.{Ends};
+ghost use Rattle.sheet.specs.LegalSettings.{LegalSettings};
+ghost use Rattle.sheet.specs.Settings.{channels};
+ghost use Rattle.sheet.specs.Sizes.{mostRow};
 ghost use Rattle.frame_body.specs.Writing.{belowEnds};
+use sheet::Settings;
 
 // Those of the baps, from the front of `to` on; answers how many they are.
-pub(crate) fn gather_baps(row: &[u8], channels: usize, ends: [usize; 6], to: &mut [u8]) -> usize
-    requires { ⌜ Ends channels ends ⌝ }
-    requires { ⌜ (length (now row) ≡ 256 * channels) × (length (now to) ≡ 1536) ⌝ }
-    ensures { λ r. ⌜ r ≡ length (belowEnds channels ends (now (row .entry))) ⌝ }
-    ensures { λ r. ⌜ take r (now (to .exit)) ≡ belowEnds channels ends (now (row .entry)) ⌝ }
+pub(crate) fn gather_baps(settings: Settings, row: &[u8], to: &mut [u8]) -> usize
+    requires { ⌜ LegalSettings settings ⌝ }
+    requires { ⌜ (length (now row) ≡ 256 * channels settings) × (length (now to) ≡ mostRow) ⌝ }
+    ensures { λ r. ⌜ r ≡ length (belowEnds settings (now (row .entry))) ⌝ }
+    ensures { λ r. ⌜ take r (now (to .exit)) ≡ belowEnds settings (now (row .entry)) ⌝ }
 {
+    let n = sheet::channels(settings);
     let mut at = 0;
-    for c in 0..channels {
+    for c in 0..n {
+        let end = sheet::end_at(settings, c);
         let a = 256 * c;
-        let e = a + ends[c];
-        let next = at + ends[c];
+        let e = a + end;
+        let next = at + end;
         slices::copy(&row[a..e], &mut to[at..next]);
         at = next;
     }
@@ -24,17 +29,19 @@ pub(crate) fn gather_baps(row: &[u8], channels: usize, ends: [usize; 6], to: &mu
 }
 
 // Those of the codes.
-pub(crate) fn gather_codes(row: &[u16], channels: usize, ends: [usize; 6], to: &mut [u16]) -> usize
-    requires { ⌜ Ends channels ends ⌝ }
-    requires { ⌜ (length (now row) ≡ 256 * channels) × (length (now to) ≡ 1536) ⌝ }
-    ensures { λ r. ⌜ r ≡ length (belowEnds channels ends (now (row .entry))) ⌝ }
-    ensures { λ r. ⌜ take r (now (to .exit)) ≡ belowEnds channels ends (now (row .entry)) ⌝ }
+pub(crate) fn gather_codes(settings: Settings, row: &[u16], to: &mut [u16]) -> usize
+    requires { ⌜ LegalSettings settings ⌝ }
+    requires { ⌜ (length (now row) ≡ 256 * channels settings) × (length (now to) ≡ mostRow) ⌝ }
+    ensures { λ r. ⌜ r ≡ length (belowEnds settings (now (row .entry))) ⌝ }
+    ensures { λ r. ⌜ take r (now (to .exit)) ≡ belowEnds settings (now (row .entry)) ⌝ }
 {
+    let n = sheet::channels(settings);
     let mut at = 0;
-    for c in 0..channels {
+    for c in 0..n {
+        let end = sheet::end_at(settings, c);
         let a = 256 * c;
-        let e = a + ends[c];
-        let next = at + ends[c];
+        let e = a + end;
+        let next = at + end;
         slices::copy_codes(&row[a..e], &mut to[at..next]);
         at = next;
     }

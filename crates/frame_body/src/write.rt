@@ -2,9 +2,11 @@
 use crate::gather::gather_baps;
 use crate::gather::gather_codes;
 use bits::Writer;
-use frame::Track;
 use sheet::BlockSet;
 use sheet::ExponentSet;
+use sheet::MOST_CHANNELS;
+use sheet::MOST_ROW;
+use sheet::Settings;
 use sheet::read::wide;
 ghost use mathlib.Core.Path.{_≡_};
 ghost use mathlib.Core.Bool.{true};
@@ -13,9 +15,11 @@ ghost use lib.ListN.{length};
 ghost use Rattle.bits.specs.Answer.{stored};
 ghost use Rattle.bits.specs.Bytes.{bytesFor};
 ghost use Rattle.bits.specs.Write.{Ready, Put};
-ghost use Rattle.mantissas.specs.Inner.{Ends, Coded};
+ghost use Rattle.mantissas.specs.Inner.{Coded};
 ghost use Rattle.mantissas.specs.Stream.{stream};
+ghost use Rattle.sheet.specs.LegalSettings.{LegalSettings};
 ghost use Rattle.sheet.specs.Ranges.{legalEnd};
+ghost use Rattle.sheet.specs.Settings.{channels};
 ghost use Rattle.frame.specs.Layout.{cleanRow};
 ghost use Rattle.frame.specs.Body.{setBits, setsBits, bapRow, blockBits, bodyBits};
 ghost use Rattle.frame.specs.Legal.{LegalFrame};
@@ -40,22 +44,22 @@ fn put_part(out: &mut [u8], w: Writer, part: &[u8], set: ExponentSet, end: usize
 fn put_sets(
     out: &mut [u8],
     w: Writer,
-    sheet: &[u8],
-    track: Track,
-    strategies: [[BlockSet; 6]; 6],
+    settings: Settings,
+    strategies: [[BlockSet; 6]; MOST_CHANNELS],
     b: usize,
     row: &[u8],
 ) -> Writer
-    requires { ⌜ Under (now sheet) track strategies ⌝ }
-    requires { ⌜ (b < 6) × (length (now row) ≡ 256 * track .channels) ⌝ }
-    requires { ⌜ NewSets (now sheet) b (now row) ⌝ }
-    requires { ⌜ Ready w (length (now out)) (length (setsBits (now sheet) b (now row))) ⌝ }
-    ensures { λ r. ⌜ Put (now (out .entry)) w (setsBits (now (sheet .entry)) b (now (row .entry))) (now (out .exit)) r ⌝ }
+    requires { ⌜ Under settings strategies ⌝ }
+    requires { ⌜ (b < 6) × (length (now row) ≡ 256 * channels settings) ⌝ }
+    requires { ⌜ NewSets settings b (now row) ⌝ }
+    requires { ⌜ Ready w (length (now out)) (length (setsBits settings b (now row))) ⌝ }
+    ensures { λ r. ⌜ Put (now (out .entry)) w (setsBits settings b (now (row .entry))) (now (out .exit)) r ⌝ }
 {
+    let n = sheet::channels(settings);
     let mut w = w;
-    for c in 0..track.channels {
-        let set = frame::set_at(strategies, b, c);
-        let end = track.ends[c];
+    for c in 0..n {
+        let set = sheet::set_at(strategies, b, c);
+        let end = sheet::end_at(settings, c);
         let a = 256 * c;
         let e = a + 256;
         w = put_part(out, w, &row[a..e], set, end);
@@ -64,24 +68,17 @@ fn put_sets(
 }
 
 // The mantissas of a block as one stream over all channels: the bins below each end, the others having no bits.
-fn put_bins(
-    out: &mut [u8],
-    w: Writer,
-    channels: usize,
-    ends: [usize; 6],
-    bap: &[u8],
-    codes: &[u16],
-) -> Writer
-    requires { ⌜ Ends channels ends ⌝ }
-    requires { ⌜ (length (now bap) ≡ 256 * channels) × (length (now codes) ≡ 256 * channels) ⌝ }
-    requires { ⌜ Coded (belowEnds channels ends (now bap)) (belowEnds channels ends (now codes)) ⌝ }
-    requires { ⌜ Ready w (length (now out)) (length (stream (belowEnds channels ends (now bap)) (belowEnds channels ends (now codes)))) ⌝ }
-    ensures { λ r. ⌜ Put (now (out .entry)) w (stream (belowEnds channels ends (now (bap .entry))) (belowEnds channels ends (now (codes .entry)))) (now (out .exit)) r ⌝ }
+fn put_bins(out: &mut [u8], w: Writer, settings: Settings, bap: &[u8], codes: &[u16]) -> Writer
+    requires { ⌜ LegalSettings settings ⌝ }
+    requires { ⌜ (length (now bap) ≡ 256 * channels settings) × (length (now codes) ≡ 256 * channels settings) ⌝ }
+    requires { ⌜ Coded (belowEnds settings (now bap)) (belowEnds settings (now codes)) ⌝ }
+    requires { ⌜ Ready w (length (now out)) (length (stream (belowEnds settings (now bap)) (belowEnds settings (now codes)))) ⌝ }
+    ensures { λ r. ⌜ Put (now (out .entry)) w (stream (belowEnds settings (now (bap .entry))) (belowEnds settings (now (codes .entry)))) (now (out .exit)) r ⌝ }
 {
     let mut low_bap = frame_rows::no_row();
     let mut low_codes = frame_rows::no_row_codes();
-    let n = gather_baps(bap, channels, ends, &mut low_bap[0..1536]);
-    let m = gather_codes(codes, channels, ends, &mut low_codes[0..1536]);
+    let n = gather_baps(settings, bap, &mut low_bap[0..MOST_ROW]);
+    let m = gather_codes(settings, codes, &mut low_codes[0..MOST_ROW]);
     mantissas::put_mantissas(out, w, &low_bap[0..n], &low_codes[0..m])
 }
 
@@ -89,54 +86,51 @@ fn put_bins(
 fn put_block(
     out: &mut [u8],
     w: Writer,
-    sheet: &[u8],
-    track: Track,
-    strategies: [[BlockSet; 6]; 6],
+    settings: Settings,
+    strategies: [[BlockSet; 6]; MOST_CHANNELS],
     b: usize,
     row: &[u8],
     bap: &[u8],
     codes: &[u16],
 ) -> Writer
-    requires { ⌜ Under (now sheet) track strategies ⌝ }
-    requires { ⌜ (b < 6) × (length (now row) ≡ 256 * track .channels) ⌝ }
-    requires { ⌜ NewSets (now sheet) b (now row) ⌝ }
-    requires { ⌜ (now bap ≡ bapRow (now sheet) (now row)) × (cleanRow (now sheet) (now codes) ≡ now codes) × Coded (now bap) (now codes) ⌝ }
-    requires { ⌜ Ready w (length (now out)) (length (blockBits (now sheet) b (now row) (now codes))) ⌝ }
-    ensures { λ r. ⌜ Put (now (out .entry)) w (blockBits (now (sheet .entry)) b (now (row .entry)) (now (codes .entry))) (now (out .exit)) r ⌝ }
+    requires { ⌜ Under settings strategies ⌝ }
+    requires { ⌜ (b < 6) × (length (now row) ≡ 256 * channels settings) ⌝ }
+    requires { ⌜ NewSets settings b (now row) ⌝ }
+    requires { ⌜ (now bap ≡ bapRow settings (now row)) × (cleanRow settings (now codes) ≡ now codes) × Coded (now bap) (now codes) ⌝ }
+    requires { ⌜ Ready w (length (now out)) (length (blockBits settings b (now row) (now codes))) ⌝ }
+    ensures { λ r. ⌜ Put (now (out .entry)) w (blockBits settings b (now (row .entry)) (now (codes .entry))) (now (out .exit)) r ⌝ }
 {
-    let ends = track.ends;
-    let sets = put_sets(out, w, sheet, track, strategies, b, row);
-    put_bins(out, sets, track.channels, ends, bap, codes)
+    let sets = put_sets(out, w, settings, strategies, b, row);
+    put_bins(out, sets, settings, bap, codes)
 }
 
 // The six blocks.
 fn put_body(
     out: &mut [u8],
     w: Writer,
-    sheet: &[u8],
-    track: Track,
-    strategies: [[BlockSet; 6]; 6],
+    settings: Settings,
+    strategies: [[BlockSet; 6]; MOST_CHANNELS],
     exps: &[u8],
     bap: &[u8],
     codes: &[u16],
 ) -> Writer
-    requires { ⌜ Under (now sheet) track strategies ⌝ }
-    requires { ⌜ (length (now exps) ≡ 256 * track .channels * 6) × (length (now bap) ≡ 256 * track .channels * 6) × (length (now codes) ≡ 256 * track .channels * 6) ⌝ }
-    requires { ⌜ LegalFrame (now sheet) (now exps) (now codes) ⌝ }
-    requires { ⌜ (now bap ≡ bapsOf (now sheet) (now exps)) × (cleaned (now sheet) (now codes) ≡ now codes) ⌝ }
-    requires { ⌜ Ready w (length (now out)) (length (bodyBits (now sheet) (now exps) (now codes))) ⌝ }
-    ensures { λ r. ⌜ Put (now (out .entry)) w (bodyBits (now (sheet .entry)) (now (exps .entry)) (now (codes .entry))) (now (out .exit)) r ⌝ }
+    requires { ⌜ Under settings strategies ⌝ }
+    requires { ⌜ (length (now exps) ≡ 256 * channels settings * 6) × (length (now bap) ≡ 256 * channels settings * 6) × (length (now codes) ≡ 256 * channels settings * 6) ⌝ }
+    requires { ⌜ LegalFrame settings (now exps) (now codes) ⌝ }
+    requires { ⌜ (now bap ≡ bapsOf settings (now exps)) × (cleaned settings (now codes) ≡ now codes) ⌝ }
+    requires { ⌜ Ready w (length (now out)) (length (bodyBits settings (now exps) (now codes))) ⌝ }
+    ensures { λ r. ⌜ Put (now (out .entry)) w (bodyBits settings (now (exps .entry)) (now (codes .entry))) (now (out .exit)) r ⌝ }
 {
-    let n = 256 * track.channels;
+    let n = sheet::channels(settings);
+    let z = 256 * n;
     let mut w = w;
     for b in 0..6 {
-        let a = n * b;
-        let e = a + n;
+        let a = z * b;
+        let e = a + z;
         w = put_block(
             out,
             w,
-            sheet,
-            track,
+            settings,
             strategies,
             b,
             &exps[a..e],
@@ -150,29 +144,19 @@ fn put_body(
 // The body from the first bit of the output on, closed with zero bits to the byte; the bytes after it stay.
 pub fn store_body(
     out: &mut [u8],
-    sheet: &[u8],
-    track: Track,
-    strategies: [[BlockSet; 6]; 6],
+    settings: Settings,
+    strategies: [[BlockSet; 6]; MOST_CHANNELS],
     exps: &[u8],
     bap: &[u8],
     codes: &[u16],
 )
-    requires { ⌜ Under (now sheet) track strategies ⌝ }
-    requires { ⌜ (length (now exps) ≡ 256 * track .channels * 6) × (length (now bap) ≡ 256 * track .channels * 6) × (length (now codes) ≡ 256 * track .channels * 6) ⌝ }
-    requires { ⌜ LegalFrame (now sheet) (now exps) (now codes) ⌝ }
-    requires { ⌜ (now bap ≡ bapsOf (now sheet) (now exps)) × (cleaned (now sheet) (now codes) ≡ now codes) ⌝ }
-    requires { ⌜ bytesFor (length (bodyBits (now sheet) (now exps) (now codes))) ≤ length (now out) ⌝ }
-    ensures { λ _. ⌜ now (out .exit) ≡ stored (bodyBits (now (sheet .entry)) (now (exps .entry)) (now (codes .entry))) (now (out .entry)) ⌝ }
+    requires { ⌜ Under settings strategies ⌝ }
+    requires { ⌜ (length (now exps) ≡ 256 * channels settings * 6) × (length (now bap) ≡ 256 * channels settings * 6) × (length (now codes) ≡ 256 * channels settings * 6) ⌝ }
+    requires { ⌜ LegalFrame settings (now exps) (now codes) ⌝ }
+    requires { ⌜ (now bap ≡ bapsOf settings (now exps)) × (cleaned settings (now codes) ≡ now codes) ⌝ }
+    requires { ⌜ bytesFor (length (bodyBits settings (now exps) (now codes))) ≤ length (now out) ⌝ }
+    ensures { λ _. ⌜ now (out .exit) ≡ stored (bodyBits settings (now (exps .entry)) (now (codes .entry))) (now (out .entry)) ⌝ }
 {
-    let w = put_body(
-        out,
-        bits::start(),
-        sheet,
-        track,
-        strategies,
-        exps,
-        bap,
-        codes,
-    );
+    let w = put_body(out, bits::start(), settings, strategies, exps, bap, codes);
     bits::finish(out, w);
 }

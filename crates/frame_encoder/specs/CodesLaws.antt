@@ -8,9 +8,11 @@ use lib.ListN.{length, take, getD, replicate}
 use lib.Seq.{getD-take}
 use Rattle.allocation.specs.AllocationLaws.{allocated-most}
 use Rattle.bits.specs.Parts.{piece}
-use Rattle.bits.specs.Refusal as refusal
+use Rattle.sheet.specs.Settings.{channels, endAt}
+use Rattle.sheet.specs.LegalSettings.{LegalSettings}
+use Rattle.sheet.specs.declared.settings.Settings.{Settings}
 use Rattle.frame.specs.Body.{bapPart}
-use Rattle.frame.specs.Layout.{channels, endAt, rowOf}
+use Rattle.frame.specs.Layout.{rowOf}
 use Rattle.frame.specs.LayoutLaws.{piece-bap}
 use Rattle.frame.specs.Under.{channel-known}
 use Rattle.frame_rows.specs.LegalLaws.{legal-low}
@@ -24,7 +26,6 @@ use Rattle.frame_runs.specs.RunsLaws.{whole-below}
 use Rattle.mantissas.specs.RangesLaws.{row}
 use Rattle.quantiser.specs.Code.{codeOf}
 use Rattle.quantiser.specs.CodeLaws.{code-in-range}
-use Rattle.sheet.specs.Sheet.{checkOf}
 use Rattle.frame_encoder.specs.Codes.{codesFor, codePart}
 use Rattle.frame_encoder.specs.Made.{Codable, Allocated}
 
@@ -40,38 +41,38 @@ taken-most (suc n) m [] h i = omega arith
 taken-most (suc n) m (x ∷ l) h zero = h 0
 taken-most (suc n) m (x ∷ l) h (suc i) = taken-most n m l (λ j. h (suc j)) i
 
-pub bap-most : (sheet : List ℕ) (c : ℕ) (part : List ℕ) (i : ℕ) → getD (bapPart sheet c part) i 0 ≤ 15
+pub bap-most : (settings : Settings) (c : ℕ) (part : List ℕ) (i : ℕ) → getD (bapPart settings c part) i 0 ≤ 15
 unfolding bapPart
-bap-most sheet c part i = allocated-most _ _ _ part 256 i
+bap-most settings c part i = allocated-most _ _ _ part 256 i
 
-module _ (sheet : List ℕ) (accepted : checkOf sheet ≡ refusal.accepted) (b c : ℕ) (hb : b < 6) (hc : c < channels sheet) where
-  pub end-held : endAt sheet c ≤ 256
-  end-held = omega (arith, channel-known sheet accepted c hc .end-most)
+module _ (settings : Settings) (under : LegalSettings settings) (b c : ℕ) (hb : b < 6) (hc : c < channels settings) where
+  pub end-held : endAt settings c ≤ 256
+  end-held = omega (arith, channel-known settings under c hc .end-most)
 
   -- the baps of the part
-  pub bap-below : (exps : List ℕ) → belowEnd sheet b c (bapsOf sheet exps) ≡ take (endAt sheet c) (bapPart sheet c (piece 256 c (rowOf sheet b exps)))
+  pub bap-below : (exps : List ℕ) → belowEnd settings b c (bapsOf settings exps) ≡ take (endAt settings c) (bapPart settings c (piece 256 c (rowOf settings b exps)))
   bap-below exps =
-      below-row sheet b c (bapsOf sheet exps) hc end-held
-      ∙ ap (λ (r : List ℕ). take (endAt sheet c) (piece 256 c r)) (row-baps sheet exps b hb)
-      ∙ ap (take (endAt sheet c)) (piece-bap sheet (rowOf sheet b exps) c hc)
+      below-row settings b c (bapsOf settings exps) hc end-held
+      ∙ ap (λ (r : List ℕ). take (endAt settings c) (piece 256 c r)) (row-baps settings exps b hb)
+      ∙ ap (take (endAt settings c)) (piece-bap settings (rowOf settings b exps) c hc)
 
-  pub codable-part : (coeffs : List Float) (exps bap : List ℕ) → Encodable sheet coeffs → Allocated sheet exps bap
-      → Codable (belowEnd sheet b c coeffs) (belowEnd sheet b c exps) (belowEnd sheet b c bap)
+  pub codable-part : (coeffs : List Float) (exps bap : List ℕ) → Encodable settings coeffs → Allocated settings exps bap
+      → Codable (belowEnd settings b c coeffs) (belowEnd settings b c exps) (belowEnd settings b c bap)
   codable-part coeffs exps bap e a =
-      let n = whole-below sheet b c coeffs accepted hb hc (e .whole) in
-      let part = piece 256 c (rowOf sheet b exps) in
+      let n = whole-below settings b c coeffs under hb hc (e .whole) in
+      let part = piece 256 c (rowOf settings b exps) in
       record {
-        all-finite = finite-below sheet coeffs b c (e .finite) hb hc;
-        exps-long = whole-below sheet b c exps accepted hb hc (a .whole) ∙ sym n;
-        bap-long = whole-below sheet b c bap accepted hb hc (ap length (a .is) ∙ length-baps sheet exps) ∙ sym n;
+        all-finite = finite-below settings coeffs b c (e .finite) hb hc;
+        exps-long = whole-below settings b c exps under hb hc (a .whole) ∙ sym n;
+        bap-long = whole-below settings b c bap under hb hc (ap length (a .is) ∙ length-baps settings exps) ∙ sym n;
         low = λ i l.
-            let below : i < endAt sheet c = omega (arith, n, l) in
-            rw (below-row sheet b c exps hc end-held, getD-take (endAt sheet c) part i 0 below) (legal-low sheet exps accepted (a .whole) (a .legal) b hb .low c hc i below);
-        fit = λ i. rw (a .is, bap-below exps) (taken-most (endAt sheet c) 15 (bapPart sheet c part) (bap-most sheet c part) i);
+            let below : i < endAt settings c = omega (arith, n, l) in
+            rw (below-row settings b c exps hc end-held, getD-take (endAt settings c) part i 0 below) (legal-low settings exps under (a .whole) (a .legal) b hb .low c hc i below);
+        fit = λ i. rw (a .is, bap-below exps) (taken-most (endAt settings c) 15 (bapPart settings c part) (bap-most settings c part) i);
       }
 
-  pub part-is : (coeffs : List Float) (exps bap : List ℕ) → length coeffs ≡ 256 * channels sheet * 6
-      → codesFor (belowEnd sheet b c coeffs) (belowEnd sheet b c exps) (belowEnd sheet b c bap) ++ replicate (256 - length (belowEnd sheet b c coeffs)) 0
-      ≡ codePart sheet coeffs exps bap b c
+  pub part-is : (coeffs : List Float) (exps bap : List ℕ) → length coeffs ≡ 256 * channels settings * 6
+      → codesFor (belowEnd settings b c coeffs) (belowEnd settings b c exps) (belowEnd settings b c bap) ++ replicate (256 - length (belowEnd settings b c coeffs)) 0
+      ≡ codePart settings coeffs exps bap b c
   unfolding codePart
-  part-is coeffs exps bap whole = rw (whole-below sheet b c coeffs accepted hb hc whole)
+  part-is coeffs exps bap whole = rw (whole-below settings b c coeffs under hb hc whole)

@@ -8,9 +8,8 @@ use lib.Ieee.{Float}
 use lib.ListN.{length, take, drop, getD, replicate, length-append, length-drop, length-replicate, take-append-drop}
 use lib.Seq.{take-at, getD-drop}
 use Rattle.bits.specs.Parts.{joined, piece}
-use Rattle.bits.specs.Refusal as refusal
 use Rattle.frame.specs.Body.{bapPart, bapRow}
-use Rattle.frame.specs.Layout.{channels, endAt, rowOf, clean, cleanRow}
+use Rattle.frame.specs.Layout.{rowOf, clean, cleanRow}
 use Rattle.frame.specs.LayoutLaws.{length-bapPart}
 use Rattle.frame.specs.Legal.{codesLegal, LegalFrame}
 use Rattle.frame_rows.specs.Rows.{bapsOf, cleaned}
@@ -26,8 +25,10 @@ use Rattle.mantissas.specs.Stream.{coded}
 use Rattle.mantissas.specs.Inner.{Coded, empty, bin}
 use Rattle.quantiser.specs.Code.{codeOf}
 use Rattle.quantiser.specs.CodeLaws.{code-in-range}
-use Rattle.sheet.specs.Sheet.{checkOf}
 use Rattle.sheet.specs.Tests.{all-hold}
+use Rattle.sheet.specs.Settings.{channels, endAt}
+use Rattle.sheet.specs.LegalSettings.{LegalSettings}
+use Rattle.sheet.specs.declared.settings.Settings.{Settings}
 use Rattle.frame_encoder.specs.Codes.{codesFor, codePart, codesAt, codesOf}
 use Rattle.frame_encoder.specs.CodesLaws.{bap-most, end-held, bap-below, codable-part}
 use Rattle.frame_encoder.specs.Made.{Codable, Allocated, Made}
@@ -82,106 +83,106 @@ code-at (x ∷ xs) (k ∷ exps) (b ∷ bap) (suc i) z e f h = code-at xs exps ba
 
 -- ---- a frame's codes
 
-module _ (sheet : List ℕ) (coeffs : List Float) (exps bap : List ℕ) (accepted : checkOf sheet ≡ refusal.accepted) (e : Encodable sheet coeffs) (a : Allocated sheet exps bap) where
-  module _ (b c : ℕ) (hb : b < 6) (hc : c < channels sheet) where
-    codable : Codable (belowEnd sheet b c coeffs) (belowEnd sheet b c exps) (belowEnd sheet b c bap)
-    codable = codable-part sheet accepted b c hb hc coeffs exps bap e a
+module _ (settings : Settings) (coeffs : List Float) (exps bap : List ℕ) (under : LegalSettings settings) (e : Encodable settings coeffs) (a : Allocated settings exps bap) where
+  module _ (b c : ℕ) (hb : b < 6) (hc : c < channels settings) where
+    codable : Codable (belowEnd settings b c coeffs) (belowEnd settings b c exps) (belowEnd settings b c bap)
+    codable = codable-part settings under b c hb hc coeffs exps bap e a
 
-    length-below-end : length (codesFor (belowEnd sheet b c coeffs) (belowEnd sheet b c exps) (belowEnd sheet b c bap)) ≡ endAt sheet c
-    length-below-end = length-codesFor _ _ _ (codable .exps-long) (codable .bap-long) ∙ whole-below sheet b c coeffs accepted hb hc (e .whole)
+    length-below-end : length (codesFor (belowEnd settings b c coeffs) (belowEnd settings b c exps) (belowEnd settings b c bap)) ≡ endAt settings c
+    length-below-end = length-codesFor _ _ _ (codable .exps-long) (codable .bap-long) ∙ whole-below settings b c coeffs under hb hc (e .whole)
 
-    length-codePart : length (codePart sheet coeffs exps bap b c) ≡ 256
+    length-codePart : length (codePart settings coeffs exps bap b c) ≡ 256
     unfolding codePart
     length-codePart =
-        rw (length-append, length-below-end, length-replicate {A = ℕ} (256 - endAt sheet c) 0) (omega (arith, end-held sheet accepted b c hb hc))
+        rw (length-append, length-below-end, length-replicate {A = ℕ} (256 - endAt settings c) 0) (omega (arith, end-held settings under b c hb hc))
 
-    codePart-clean : clean (endAt sheet c) (codePart sheet coeffs exps bap b c) ≡ codePart sheet coeffs exps bap b c
+    codePart-clean : clean (endAt settings c) (codePart settings coeffs exps bap b c) ≡ codePart settings coeffs exps bap b c
     unfolding clean codePart
     codePart-clean =
-        let zeros = replicate {A = ℕ} (256 - endAt sheet c) 0 in
-        let front = codesFor (belowEnd sheet b c coeffs) (belowEnd sheet b c exps) (belowEnd sheet b c bap) in
-        ap (λ (l : List ℕ). l ++ zeros) (take-at front zeros (endAt sheet c) length-below-end)
+        let zeros = replicate {A = ℕ} (256 - endAt settings c) 0 in
+        let front = codesFor (belowEnd settings b c coeffs) (belowEnd settings b c exps) (belowEnd settings b c bap) in
+        ap (λ (l : List ℕ). l ++ zeros) (take-at front zeros (endAt settings c) length-below-end)
 
-    codePart-coded : Coded (bapPart sheet c (piece 256 c (rowOf sheet b exps))) (codePart sheet coeffs exps bap b c)
+    codePart-coded : Coded (bapPart settings c (piece 256 c (rowOf settings b exps))) (codePart settings coeffs exps bap b c)
     unfolding codePart
     codePart-coded =
-        let n = endAt sheet c in
-        let baps = bapPart sheet c (piece 256 c (rowOf sheet b exps)) in
-        let most = bap-most sheet c (piece 256 c (rowOf sheet b exps)) in
-        let below : belowEnd sheet b c bap ≡ take n baps = ap (belowEnd sheet b c) (a .is) ∙ bap-below sheet accepted b c hb hc exps in
-        let rest : length (drop n baps) ≡ 256 - n = length-drop n baps ∙ ap (λ (k : ℕ). k - n) (length-bapPart sheet c _) in
+        let n = endAt settings c in
+        let baps = bapPart settings c (piece 256 c (rowOf settings b exps)) in
+        let most = bap-most settings c (piece 256 c (rowOf settings b exps)) in
+        let below : belowEnd settings b c bap ≡ take n baps = ap (belowEnd settings b c) (a .is) ∙ bap-below settings under b c hb hc exps in
+        let rest : length (drop n baps) ≡ 256 - n = length-drop n baps ∙ ap (λ (k : ℕ). k - n) (length-bapPart settings c _) in
         let past : (i : ℕ) → getD (drop n baps) i 0 ≤ 15 = λ i. rw (getD-drop n baps i 0) (most (n + i)) in
-        let codes = codesFor (belowEnd sheet b c coeffs) (belowEnd sheet b c exps) (belowEnd sheet b c bap) in
+        let codes = codesFor (belowEnd settings b c coeffs) (belowEnd settings b c exps) (belowEnd settings b c bap) in
         let front : Coded (take n baps) codes =
         subst (λ (bs : List ℕ). Coded bs codes) below (coded-for _ _ _ (codable .exps-long) (codable .bap-long) (codable .fit)) in
         rw (← take-append-drop n baps) (coded-append front (coded-zeros (drop n baps) (256 - n) rest past))
 
   -- each code below an end is that of its coefficient at that bin's exponent and bap
-  pub codesAt-at : (b c i : ℕ) (z : Float) → b < 6 → c < channels sheet → i < endAt sheet c
-      → getD (belowEnd sheet b c (codesAt sheet coeffs exps bap)) i 0
-      ≡ codeOf (getD (belowEnd sheet b c coeffs) i z) (getD (belowEnd sheet b c exps) i 0) (getD (belowEnd sheet b c bap) i 0)
+  pub codesAt-at : (b c i : ℕ) (z : Float) → b < 6 → c < channels settings → i < endAt settings c
+      → getD (belowEnd settings b c (codesAt settings coeffs exps bap)) i 0
+      ≡ codeOf (getD (belowEnd settings b c coeffs) i z) (getD (belowEnd settings b c exps) i 0) (getD (belowEnd settings b c bap) i 0)
   unfolding codesAt codePart
   codesAt-at b c i z hb hc hi =
       let k = codable b c hb hc in
-      let n = endAt sheet c in
-      let codes = codesFor (belowEnd sheet b c coeffs) (belowEnd sheet b c exps) (belowEnd sheet b c bap) in
-      let below : belowEnd sheet b c (codesAt sheet coeffs exps bap) ≡ codes =
-      below-row sheet b c (codesAt sheet coeffs exps bap) hc (end-held sheet accepted b c hb hc)
-      ∙ ap (take n) (part-framed sheet (codePart sheet coeffs exps bap) length-codePart b c hb hc)
+      let n = endAt settings c in
+      let codes = codesFor (belowEnd settings b c coeffs) (belowEnd settings b c exps) (belowEnd settings b c bap) in
+      let below : belowEnd settings b c (codesAt settings coeffs exps bap) ≡ codes =
+      below-row settings b c (codesAt settings coeffs exps bap) hc (end-held settings under b c hb hc)
+      ∙ ap (take n) (part-framed settings (codePart settings coeffs exps bap) length-codePart b c hb hc)
       ∙ take-at codes (replicate {A = ℕ} (256 - n) 0) n (length-below-end b c hb hc) in
       ap (λ (l : List ℕ). getD l i 0) below
-      ∙ code-at _ _ _ i z (k .exps-long) (k .bap-long) (omega (arith, hi, whole-below sheet b c coeffs accepted hb hc (e .whole)))
+      ∙ code-at _ _ _ i z (k .exps-long) (k .bap-long) (omega (arith, hi, whole-below settings b c coeffs under hb hc (e .whole)))
 
-  pub length-codesAt : length (codesAt sheet coeffs exps bap) ≡ 256 * channels sheet * 6
+  pub length-codesAt : length (codesAt settings coeffs exps bap) ≡ 256 * channels settings * 6
   unfolding codesAt
-  length-codesAt = length-framed sheet (codePart sheet coeffs exps bap) length-codePart
+  length-codesAt = length-framed settings (codePart settings coeffs exps bap) length-codePart
 
   -- nothing stands from an end on
-  pub codesAt-clean : cleaned sheet (codesAt sheet coeffs exps bap) ≡ codesAt sheet coeffs exps bap
+  pub codesAt-clean : cleaned settings (codesAt settings coeffs exps bap) ≡ codesAt settings coeffs exps bap
   unfolding codesAt
-  codesAt-clean = framed-clean sheet (codePart sheet coeffs exps bap) length-codePart codePart-clean
+  codesAt-clean = framed-clean settings (codePart settings coeffs exps bap) length-codePart codePart-clean
 
-  row-coded : (b : ℕ) → b < 6 → coded (bapRow sheet (rowOf sheet b exps)) (cleanRow sheet (rowOf sheet b (codesAt sheet coeffs exps bap))) ≡ true
+  row-coded : (b : ℕ) → b < 6 → coded (bapRow settings (rowOf settings b exps)) (cleanRow settings (rowOf settings b (codesAt settings coeffs exps bap))) ≡ true
   unfolding bapRow codesAt
   row-coded b hb =
-      rw (row-framed-clean sheet (codePart sheet coeffs exps bap) length-codePart codePart-clean b hb)
-      (coded-is (coded-joined _ (codePart sheet coeffs exps bap b) (channels sheet) (λ c hc. codePart-coded b c hb hc)))
+      rw (row-framed-clean settings (codePart settings coeffs exps bap) length-codePart codePart-clean b hb)
+      (coded-is (coded-joined _ (codePart settings coeffs exps bap b) (channels settings) (λ c hc. codePart-coded b c hb hc)))
 
   -- cause 5 is never met
-  pub codesAt-legal : codesLegal sheet exps (codesAt sheet coeffs exps bap) ≡ true
+  pub codesAt-legal : codesLegal settings exps (codesAt settings coeffs exps bap) ≡ true
   unfolding codesLegal
-  codesAt-legal = all-hold 6 (λ b. coded (bapRow sheet (rowOf sheet b exps)) (cleanRow sheet (rowOf sheet b (codesAt sheet coeffs exps bap)))) row-coded
+  codesAt-legal = all-hold 6 (λ b. coded (bapRow settings (rowOf settings b exps)) (cleanRow settings (rowOf settings b (codesAt settings coeffs exps bap)))) row-coded
 
 -- ---- the frame of the coefficients
 
-module _ (sheet : List ℕ) (coeffs : List Float) (accepted : checkOf sheet ≡ refusal.accepted) (e : Encodable sheet coeffs) where
-  pub runs-allocated : Allocated sheet (expsOf sheet coeffs) (bapsOf sheet (expsOf sheet coeffs))
-  runs-allocated = record { whole = length-expsOf sheet coeffs accepted (e .whole); legal = expsOf-legal sheet coeffs accepted (e .whole); is = refl }
+module _ (settings : Settings) (coeffs : List Float) (under : LegalSettings settings) (e : Encodable settings coeffs) where
+  pub runs-allocated : Allocated settings (expsOf settings coeffs) (bapsOf settings (expsOf settings coeffs))
+  runs-allocated = record { whole = length-expsOf settings coeffs under (e .whole); legal = expsOf-legal settings coeffs under (e .whole); is = refl }
 
-  pub length-codesOf : length (codesOf sheet coeffs) ≡ 256 * channels sheet * 6
+  pub length-codesOf : length (codesOf settings coeffs) ≡ 256 * channels settings * 6
   unfolding codesOf
-  length-codesOf = length-codesAt sheet coeffs _ _ accepted e runs-allocated
+  length-codesOf = length-codesAt settings coeffs _ _ under e runs-allocated
 
-  pub codesOf-at : (b c i : ℕ) (z : Float) → b < 6 → c < channels sheet → i < endAt sheet c
-      → getD (belowEnd sheet b c (codesOf sheet coeffs)) i 0
-      ≡ codeOf (getD (belowEnd sheet b c coeffs) i z) (getD (belowEnd sheet b c (expsOf sheet coeffs)) i 0) (getD (belowEnd sheet b c (bapsOf sheet (expsOf sheet coeffs))) i 0)
+  pub codesOf-at : (b c i : ℕ) (z : Float) → b < 6 → c < channels settings → i < endAt settings c
+      → getD (belowEnd settings b c (codesOf settings coeffs)) i 0
+      ≡ codeOf (getD (belowEnd settings b c coeffs) i z) (getD (belowEnd settings b c (expsOf settings coeffs)) i 0) (getD (belowEnd settings b c (bapsOf settings (expsOf settings coeffs))) i 0)
   unfolding codesOf
-  codesOf-at = codesAt-at sheet coeffs _ _ accepted e runs-allocated
+  codesOf-at = codesAt-at settings coeffs _ _ under e runs-allocated
 
-  pub codesOf-clean : cleaned sheet (codesOf sheet coeffs) ≡ codesOf sheet coeffs
+  pub codesOf-clean : cleaned settings (codesOf settings coeffs) ≡ codesOf settings coeffs
   unfolding codesOf
-  codesOf-clean = codesAt-clean sheet coeffs _ _ accepted e runs-allocated
+  codesOf-clean = codesAt-clean settings coeffs _ _ under e runs-allocated
 
   -- the exponents and codes of the coefficients are a legal frame
-  pub encoded-legal : LegalFrame sheet (expsOf sheet coeffs) (codesOf sheet coeffs)
+  pub encoded-legal : LegalFrame settings (expsOf settings coeffs) (codesOf settings coeffs)
   unfolding codesOf
-  encoded-legal = record { shaped = runs-allocated .legal; coded = codesAt-legal sheet coeffs _ _ accepted e runs-allocated }
+  encoded-legal = record { shaped = runs-allocated .legal; coded = codesAt-legal settings coeffs _ _ under e runs-allocated }
 
-  pub encoded-made : Made sheet (expsOf sheet coeffs) (bapsOf sheet (expsOf sheet coeffs)) (codesOf sheet coeffs)
+  pub encoded-made : Made settings (expsOf settings coeffs) (bapsOf settings (expsOf settings coeffs)) (codesOf settings coeffs)
   encoded-made =
       record {
         exps-long = runs-allocated .whole;
-        bap-long = length-baps sheet (expsOf sheet coeffs);
+        bap-long = length-baps settings (expsOf settings coeffs);
         codes-long = length-codesOf;
         legal = encoded-legal;
         clean = codesOf-clean;

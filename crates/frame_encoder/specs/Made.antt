@@ -5,7 +5,8 @@ use mathlib.Core.List.{List}
 use mathlib.Core.Path.{_≡_}
 use lib.Ieee.{Float}
 use lib.ListN.{length, getD}
-use Rattle.frame.specs.Layout.{channels}
+use Rattle.sheet.specs.Settings.{channels}
+use Rattle.sheet.specs.declared.settings.Settings.{Settings}
 use Rattle.frame.specs.Legal.{expsLegal, LegalFrame}
 use Rattle.frame_rows.specs.Rows.{bapsOf, cleaned}
 use Rattle.frame_runs.specs.Finite.{finitePart}
@@ -19,16 +20,16 @@ pub record Codable (xs : List Float) (exps bap : List ℕ) : Type 0 where
   pub fit : (i : ℕ) → getD bap i 0 ≤ 15
 
 -- the legal exponents of a frame and their allocation
-pub record Allocated (sheet exps bap : List ℕ) : Type 0 where
-  pub whole : length exps ≡ 256 * channels sheet * 6
-  pub legal : expsLegal sheet exps ≡ true
-  pub is : bap ≡ bapsOf sheet exps
+pub record Allocated (settings : Settings) (exps bap : List ℕ) : Type 0 where
+  pub whole : length exps ≡ 256 * channels settings * 6
+  pub legal : expsLegal settings exps ≡ true
+  pub is : bap ≡ bapsOf settings exps
 
 -- a frame as it is worked out in local arrays before it is stored: legal, with its allocation, and its codes 0 from each end on
-pub record Made (sheet exps bap codes : List ℕ) : Type 0 where
-  pub exps-long : length exps ≡ 256 * channels sheet * 6
-  pub bap-long : length bap ≡ 256 * channels sheet * 6
-  pub codes-long : length codes ≡ 256 * channels sheet * 6
-  pub legal : LegalFrame sheet exps codes
-  pub clean : cleaned sheet codes ≡ codes
-  pub is : bap ≡ bapsOf sheet exps
+pub record Made (settings : Settings) (exps bap codes : List ℕ) : Type 0 where
+  pub exps-long : length exps ≡ 256 * channels settings * 6
+  pub bap-long : length bap ≡ 256 * channels settings * 6
+  pub codes-long : length codes ≡ 256 * channels settings * 6
+  pub legal : LegalFrame settings exps codes
+  pub clean : cleaned settings codes ≡ codes
+  pub is : bap ≡ bapsOf settings exps

@@ -6,14 +6,13 @@ ghost use lib.Dec.{T};
 ghost use lib.Ieee.Scale.{finite};
 ghost use lib.ListN.{length, replicate};
 ghost use Rattle.bits.specs.Parts.{joined};
-ghost use Rattle.frame.specs.Layout.{channels};
-ghost use Rattle.frame.specs.Under.{Under};
+ghost use Rattle.sheet.specs.LegalSettings.{LegalSettings};
+ghost use Rattle.sheet.specs.Settings.{channels};
 ghost use Rattle.frame_runs.specs.Inner.{Encodable};
 ghost use Rattle.quantiser.specs.Code.{codeOf};
 ghost use Rattle.frame_encoder.specs.Codes.{codesFor, codePart, codesAt};
 ghost use Rattle.frame_encoder.specs.Made.{Codable, Allocated};
-use frame::Track;
-use sheet::BlockSet;
+use sheet::Settings;
 
 fn wide(x: u8) -> u32
     ensures { λ r. ⌜ r ≡ x ⌝ }
@@ -54,24 +53,16 @@ fn code_part(coeffs: &[f32], exps: &[u8], bap: &[u8], part: &mut [u16])
 }
 
 // Block b.
-fn code_row(
-    sheet: &[u8],
-    track: Track,
-    strategies: [[BlockSet; 6]; 6],
-    coeffs: &[f32],
-    exps: &[u8],
-    bap: &[u8],
-    b: usize,
-    row: &mut [u16],
-)
-    requires { ⌜ Under (now sheet) track strategies ⌝ }
-    requires { ⌜ Encodable (now sheet) (now coeffs) × Allocated (now sheet) (now exps) (now bap) ⌝ }
-    requires { ⌜ (b < 6) × (length (now row) ≡ 256 * channels (now sheet)) ⌝ }
-    ensures { λ _. ⌜ now (row .exit) ≡ joined (channels (now (sheet .entry))) (codePart (now (sheet .entry)) (now (coeffs .entry)) (now (exps .entry)) (now (bap .entry)) b) ⌝ }
+fn code_row(settings: Settings, coeffs: &[f32], exps: &[u8], bap: &[u8], b: usize, row: &mut [u16])
+    requires { ⌜ LegalSettings settings ⌝ }
+    requires { ⌜ Encodable settings (now coeffs) × Allocated settings (now exps) (now bap) ⌝ }
+    requires { ⌜ (b < 6) × (length (now row) ≡ 256 * channels settings) ⌝ }
+    ensures { λ _. ⌜ now (row .exit) ≡ joined (channels settings) (codePart settings (now (coeffs .entry)) (now (exps .entry)) (now (bap .entry)) b) ⌝ }
 {
-    for c in 0..track.channels {
-        let a = sheet::part_start(track.channels, b, c);
-        let e = a + track.ends[c];
+    let n = sheet::channels(settings);
+    for c in 0..n {
+        let a = sheet::part_start(n, b, c);
+        let e = a + sheet::end_at(settings, c);
         let p = 256 * c;
         let q = p + 256;
         code_part(&coeffs[a..e], &exps[a..e], &bap[a..e], &mut row[p..q]);
@@ -80,32 +71,22 @@ fn code_row(
 
 // All six blocks.
 pub(crate) fn code_frame(
-    sheet: &[u8],
-    track: Track,
-    strategies: [[BlockSet; 6]; 6],
+    settings: Settings,
     coeffs: &[f32],
     exps: &[u8],
     bap: &[u8],
     codes: &mut [u16],
 )
-    requires { ⌜ Under (now sheet) track strategies ⌝ }
-    requires { ⌜ Encodable (now sheet) (now coeffs) × Allocated (now sheet) (now exps) (now bap) ⌝ }
-    requires { ⌜ length (now codes) ≡ 256 * track .channels * 6 ⌝ }
-    ensures { λ _. ⌜ now (codes .exit) ≡ codesAt (now (sheet .entry)) (now (coeffs .entry)) (now (exps .entry)) (now (bap .entry)) ⌝ }
+    requires { ⌜ LegalSettings settings ⌝ }
+    requires { ⌜ Encodable settings (now coeffs) × Allocated settings (now exps) (now bap) ⌝ }
+    requires { ⌜ length (now codes) ≡ 256 * channels settings * 6 ⌝ }
+    ensures { λ _. ⌜ now (codes .exit) ≡ codesAt settings (now (coeffs .entry)) (now (exps .entry)) (now (bap .entry)) ⌝ }
 {
-    let n = 256 * track.channels;
+    let n = sheet::channels(settings);
+    let z = 256 * n;
     for b in 0..6 {
-        let a = n * b;
-        let e = a + n;
-        code_row(
-            sheet,
-            track,
-            strategies,
-            coeffs,
-            exps,
-            bap,
-            b,
-            &mut codes[a..e],
-        );
+        let a = z * b;
+        let e = a + z;
+        code_row(settings, coeffs, exps, bap, b, &mut codes[a..e]);
     }
 }

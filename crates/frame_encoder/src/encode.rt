@@ -1,10 +1,11 @@
 // `encode_body`: exponents, bap, codes and the body of a frame's coefficients. A frame is worked out in local arrays, so that a refusal
 // leaves everything.
 ghost use mathlib.Core.Path.{_≡_};
-ghost use Prim.Native.Nat.{_*_, _≤_};
+ghost use Prim.Native.Nat.{_*_};
 ghost use lib.ListN.{length};
+ghost use Rattle.sheet.specs.LegalSettings.{LegalSettings};
+ghost use Rattle.sheet.specs.Settings.{channels, settingsOf};
 ghost use Rattle.frame.specs.Answers.{bodyLeft};
-ghost use Rattle.frame.specs.Layout.{channels as frameChannels};
 ghost use Rattle.frame.specs.Under.{Under};
 ghost use Rattle.frame_rows.specs.Rows.{bapsOf};
 ghost use Rattle.frame_runs.specs.Inner.{Encodable};
@@ -17,79 +18,69 @@ use bits::refusal::ACCEPTED;
 use bits::refusal::NOT_FINITE;
 use bits::refusal::WRONG_LENGTH;
 use frame::FrameAnswer;
-use frame::Track;
 use sheet::BlockSet;
+use sheet::MOST_CHANNELS;
+use sheet::Settings;
 
 // Exponents, their allocation, and the codes at both.
 fn make_frame(
-    sheet: &[u8],
-    track: Track,
-    strategies: [[BlockSet; 6]; 6],
+    settings: Settings,
+    strategies: [[BlockSet; 6]; MOST_CHANNELS],
     coeffs: &[f32],
     shaped: &mut [u8],
     allocated: &mut [u8],
     quantised: &mut [u16],
 )
-    requires { ⌜ Under (now sheet) track strategies ⌝ }
-    requires { ⌜ Encodable (now sheet) (now coeffs) ⌝ }
-    requires { ⌜ (length (now shaped) ≡ 256 * track .channels * 6) × (length (now allocated) ≡ 256 * track .channels * 6) × (length (now quantised) ≡ 256 * track .channels * 6) ⌝ }
-    ensures { λ _. ⌜ now (shaped .exit) ≡ expsOf (now (sheet .entry)) (now (coeffs .entry)) ⌝ }
-    ensures { λ _. ⌜ now (allocated .exit) ≡ bapsOf (now (sheet .entry)) (expsOf (now (sheet .entry)) (now (coeffs .entry))) ⌝ }
-    ensures { λ _. ⌜ now (quantised .exit) ≡ codesOf (now (sheet .entry)) (now (coeffs .entry)) ⌝ }
+    requires { ⌜ Under settings strategies ⌝ }
+    requires { ⌜ Encodable settings (now coeffs) ⌝ }
+    requires { ⌜ (length (now shaped) ≡ 256 * channels settings * 6) × (length (now allocated) ≡ 256 * channels settings * 6) × (length (now quantised) ≡ 256 * channels settings * 6) ⌝ }
+    ensures { λ _. ⌜ now (shaped .exit) ≡ expsOf settings (now (coeffs .entry)) ⌝ }
+    ensures { λ _. ⌜ now (allocated .exit) ≡ bapsOf settings (expsOf settings (now (coeffs .entry))) ⌝ }
+    ensures { λ _. ⌜ now (quantised .exit) ≡ codesOf settings (now (coeffs .entry)) ⌝ }
 {
-    frame_runs::fill_exponents(sheet, track, strategies, coeffs, shaped);
-    frame_rows::allocate_body(sheet, track, strategies, shaped, allocated);
-    code_frame(
-        sheet,
-        track,
-        strategies,
-        coeffs,
-        shaped,
-        allocated,
-        quantised,
-    );
+    frame_runs::fill_exponents(settings, strategies, coeffs, shaped);
+    frame_rows::allocate_body(settings, strategies, shaped, allocated);
+    code_frame(settings, coeffs, shaped, allocated, quantised);
 }
 
-// An accepted sheet, buffers of the right length, finite coefficients: only room may lack.
+// The settings of an accepted sheet, buffers of the right length, finite coefficients: only room may lack.
 fn encode_accepted(
-    sheet: &[u8],
-    track: Track,
-    strategies: [[BlockSet; 6]; 6],
+    settings: Settings,
+    strategies: [[BlockSet; 6]; MOST_CHANNELS],
     coeffs: &[f32],
     exps: &mut [u8],
     bap: &mut [u8],
     codes: &mut [u16],
     body: &mut [u8],
 ) -> FrameAnswer
-    requires { ⌜ Under (now sheet) track strategies ⌝ }
-    requires { ⌜ Encodable (now sheet) (now coeffs) ⌝ }
-    requires { ⌜ (length (now exps) ≡ 256 * track .channels * 6) × (length (now bap) ≡ 256 * track .channels * 6) × (length (now codes) ≡ 256 * track .channels * 6) ⌝ }
-    ensures { λ r. ⌜ r ≡ roomAnswer (now (sheet .entry)) (expsOf (now (sheet .entry)) (now (coeffs .entry))) (codesOf (now (sheet .entry)) (now (coeffs .entry))) (length (now (body .entry))) ⌝ }
-    ensures { λ r. ⌜ now (exps .exit) ≡ left r (expsOf (now (sheet .entry)) (now (coeffs .entry))) (now (exps .entry)) ⌝ }
-    ensures { λ r. ⌜ now (bap .exit) ≡ left r (bapsOf (now (sheet .entry)) (expsOf (now (sheet .entry)) (now (coeffs .entry)))) (now (bap .entry)) ⌝ }
-    ensures { λ r. ⌜ now (codes .exit) ≡ left r (codesOf (now (sheet .entry)) (now (coeffs .entry))) (now (codes .entry)) ⌝ }
-    ensures { λ r. ⌜ now (body .exit) ≡ bodyLeft r (encodedBits (now (sheet .entry)) (now (coeffs .entry))) (now (body .entry)) ⌝ }
+    requires { ⌜ Under settings strategies ⌝ }
+    requires { ⌜ Encodable settings (now coeffs) ⌝ }
+    requires { ⌜ (length (now exps) ≡ 256 * channels settings * 6) × (length (now bap) ≡ 256 * channels settings * 6) × (length (now codes) ≡ 256 * channels settings * 6) ⌝ }
+    ensures { λ r. ⌜ r ≡ roomAnswer settings (expsOf settings (now (coeffs .entry))) (codesOf settings (now (coeffs .entry))) (length (now (body .entry))) ⌝ }
+    ensures { λ r. ⌜ now (exps .exit) ≡ left r (expsOf settings (now (coeffs .entry))) (now (exps .entry)) ⌝ }
+    ensures { λ r. ⌜ now (bap .exit) ≡ left r (bapsOf settings (expsOf settings (now (coeffs .entry)))) (now (bap .entry)) ⌝ }
+    ensures { λ r. ⌜ now (codes .exit) ≡ left r (codesOf settings (now (coeffs .entry))) (now (codes .entry)) ⌝ }
+    ensures { λ r. ⌜ now (body .exit) ≡ bodyLeft r (encodedBits settings (now (coeffs .entry))) (now (body .entry)) ⌝ }
 {
-    let n = 256 * track.channels * 6;
+    let n = sheet::channels(settings);
+    let z = 256 * n * 6;
     let mut shaped = frame_rows::no_bytes();
     let mut allocated = frame_rows::no_bytes();
     let mut quantised = frame_rows::no_codes();
     make_frame(
-        sheet,
-        track,
+        settings,
         strategies,
         coeffs,
-        &mut shaped[0..n],
-        &mut allocated[0..n],
-        &mut quantised[0..n],
+        &mut shaped[0..z],
+        &mut allocated[0..z],
+        &mut quantised[0..z],
     );
     deliver(
-        sheet,
-        track,
+        settings,
         strategies,
-        &shaped[0..n],
-        &allocated[0..n],
-        &quantised[0..n],
+        &shaped[0..z],
+        &allocated[0..z],
+        &quantised[0..z],
         exps,
         bap,
         codes,
@@ -97,19 +88,12 @@ fn encode_accepted(
     )
 }
 
-// Coefficients, exponents, bap and codes have as many entries as the sheet says.
-fn all_fit(
-    sheet: &[u8],
-    channels: usize,
-    coeffs: usize,
-    exps: usize,
-    bap: usize,
-    codes: usize,
-) -> bool
-    requires { ⌜ (channels ≡ frameChannels (now sheet)) × (channels ≤ 6) ⌝ }
-    ensures { λ r. ⌜ r ≡ allFit (now (sheet .entry)) coeffs exps bap codes ⌝ }
+// Coefficients, exponents, bap and codes have as many entries as the settings say.
+fn all_fit(settings: Settings, coeffs: usize, exps: usize, bap: usize, codes: usize) -> bool
+    requires { ⌜ LegalSettings settings ⌝ }
+    ensures { λ r. ⌜ r ≡ allFit settings coeffs exps bap codes ⌝ }
 {
-    let n = sheet::buffer_length(channels);
+    let n = sheet::buffer_length(sheet::channels(settings));
     (coeffs == n) & (exps == n) & (bap == n) & (codes == n)
 }
 
@@ -122,29 +106,22 @@ pub fn encode_body(
     body: &mut [u8],
 ) -> FrameAnswer
     ensures { λ r. ⌜ r ≡ encodeAnswer (now (sheet .entry)) (now (coeffs .entry)) (length (now (exps .entry))) (length (now (bap .entry))) (length (now (codes .entry))) (length (now (body .entry))) ⌝ }
-    ensures { λ r. ⌜ now (exps .exit) ≡ left r (expsOf (now (sheet .entry)) (now (coeffs .entry))) (now (exps .entry)) ⌝ }
-    ensures { λ r. ⌜ now (bap .exit) ≡ left r (bapsOf (now (sheet .entry)) (expsOf (now (sheet .entry)) (now (coeffs .entry)))) (now (bap .entry)) ⌝ }
-    ensures { λ r. ⌜ now (codes .exit) ≡ left r (codesOf (now (sheet .entry)) (now (coeffs .entry))) (now (codes .entry)) ⌝ }
-    ensures { λ r. ⌜ now (body .exit) ≡ bodyLeft r (encodedBits (now (sheet .entry)) (now (coeffs .entry))) (now (body .entry)) ⌝ }
+    ensures { λ r. ⌜ now (exps .exit) ≡ left r (expsOf (settingsOf (now (sheet .entry))) (now (coeffs .entry))) (now (exps .entry)) ⌝ }
+    ensures { λ r. ⌜ now (bap .exit) ≡ left r (bapsOf (settingsOf (now (sheet .entry))) (expsOf (settingsOf (now (sheet .entry))) (now (coeffs .entry)))) (now (bap .entry)) ⌝ }
+    ensures { λ r. ⌜ now (codes .exit) ≡ left r (codesOf (settingsOf (now (sheet .entry))) (now (coeffs .entry))) (now (codes .entry)) ⌝ }
+    ensures { λ r. ⌜ now (body .exit) ≡ bodyLeft r (encodedBits (settingsOf (now (sheet .entry))) (now (coeffs .entry))) (now (body .entry)) ⌝ }
 {
     let number = sheet::check_sheet(sheet);
     if number != ACCEPTED {
         return frame::refused(number);
     }
-    let track = frame::track_of(sheet);
-    let strategies = sheet::strategies_of(sheet);
-    if !all_fit(
-        sheet,
-        track.channels,
-        coeffs.len(),
-        exps.len(),
-        bap.len(),
-        codes.len(),
-    ) {
+    let settings = sheet::settings_of(sheet);
+    if !all_fit(settings, coeffs.len(), exps.len(), bap.len(), codes.len()) {
         return frame::refused(WRONG_LENGTH);
     }
-    if !frame_runs::all_finite(sheet, track, strategies, coeffs) {
+    if !frame_runs::all_finite(settings, coeffs) {
         return frame::refused(NOT_FINITE);
     }
-    encode_accepted(sheet, track, strategies, coeffs, exps, bap, codes, body)
+    let strategies = sheet::strategies_of(settings);
+    encode_accepted(settings, strategies, coeffs, exps, bap, codes, body)
 }

@@ -13,12 +13,11 @@ use Rattle.bits.specs.declared.read.ReadEnd.{ReadEnd}
 use Rattle.mantissas.specs.DigitsLaws.{below-all}
 use Rattle.mantissas.specs.Inner.{Below, nil, cons}
 use Rattle.mantissas.specs.Stream.{readStream}
-use Rattle.sheet.specs.Common.{commonOf}
-use Rattle.sheet.specs.Record.{recordOf}
-use Rattle.sheet.specs.Sheet.{checkOf}
 use Rattle.allocation.specs.AllocationLaws.{allocated-most}
+use Rattle.sheet.specs.Settings.{channels, recordAt, endAt}
+use Rattle.sheet.specs.LegalSettings.{LegalSettings}
+use Rattle.sheet.specs.declared.settings.Settings.{Settings}
 use Rattle.frame.specs.Body.{bapPart, bapRow}
-use Rattle.frame.specs.Layout.{channels, endAt}
 use Rattle.frame.specs.Reader.{Frame, grown, readSets, readBlock}
 use Rattle.frame_reader.specs.Reading.{HeldRows, CameBlock, noBlock, mostBlock}
 use Rattle.frame_reader.specs.SetsLaws.{rows-next}
@@ -35,11 +34,11 @@ unfolding joined
 below-joined zero f h = nil
 below-joined (suc k) f h = below-append (below-joined k f h) (h k)
 
-pub baps-below : (sheet row : List ℕ) → Below 16 (bapRow sheet row)
+pub baps-below : (settings : Settings) (row : List ℕ) → Below 16 (bapRow settings row)
 unfolding bapRow bapPart
-baps-below sheet row =
-    below-joined (channels sheet) (λ c. bapPart sheet c (piece 256 c row))
-    (λ c. below-all _ (λ i h. omega (arith, allocated-most (commonOf sheet) (recordOf sheet c) (endAt sheet c) (piece 256 c row) 256 i)))
+baps-below settings row =
+    below-joined (channels settings) (λ c. bapPart settings c (piece 256 c row))
+    (λ c. below-all _ (λ i h. omega (arith, allocated-most (settings .common) (recordAt settings c) (endAt settings c) (piece 256 c row) 256 i)))
 
 -- ---- one block
 
@@ -48,25 +47,25 @@ between : (bits : List Bool) (p q : ℕ) → p ≤ q → q ≤ length bits → l
 unfolding from
 between bits p q h l = rw (length-drop p bits, length-drop q bits) (omega arith)
 
-module _ (sheet : List ℕ) (b : ℕ) (old : List ℕ) (bits : List Bool) (pos : ℕ) (row bap codes : List ℕ) where
-  sets-faulty : (number : ℕ) → readSets sheet b old (from pos bits) ≡ fault number → (s : Frame) → s .row ≡ old → readBlock sheet b s (from pos bits) ≡ fault number
+module _ (settings : Settings) (b : ℕ) (old : List ℕ) (bits : List Bool) (pos : ℕ) (row bap codes : List ℕ) where
+  sets-faulty : (number : ℕ) → readSets settings b old (from pos bits) ≡ fault number → (s : Frame) → s .row ≡ old → readBlock settings b s (from pos bits) ≡ fault number
   unfolding readBlock
   sets-faulty number e s q = rw (q, e)
 
-  codes-faulty : (number at : ℕ) → readSets sheet b old (from pos bits) ≡ ok row (from at bits) → readStream (bapRow sheet row) (from at bits) ≡ fault number
-      → (s : Frame) → s .row ≡ old → readBlock sheet b s (from pos bits) ≡ fault number
+  codes-faulty : (number at : ℕ) → readSets settings b old (from pos bits) ≡ ok row (from at bits) → readStream (bapRow settings row) (from at bits) ≡ fault number
+      → (s : Frame) → s .row ≡ old → readBlock settings b s (from pos bits) ≡ fault number
   unfolding readBlock
   codes-faulty number at e g s q = rw (q, e, g)
 
-  block-read : (at end : ℕ) → pos ≤ at → at ≤ end → end ≤ length bits → readSets sheet b old (from pos bits) ≡ ok row (from at bits)
-      → readStream (bapRow sheet row) (from at bits) ≡ ok codes (from end bits)
-      → (s : Frame) → s .row ≡ old → readBlock sheet b s (from pos bits) ≡ ok (grown s row (bapRow sheet row) codes (at - pos) (end - at)) (from end bits)
+  block-read : (at end : ℕ) → pos ≤ at → at ≤ end → end ≤ length bits → readSets settings b old (from pos bits) ≡ ok row (from at bits)
+      → readStream (bapRow settings row) (from at bits) ≡ ok codes (from end bits)
+      → (s : Frame) → s .row ≡ old → readBlock settings b s (from pos bits) ≡ ok (grown s row (bapRow settings row) codes (at - pos) (end - at)) (from end bits)
   unfolding readBlock
   block-read at end l m n e g s q = rw (q, e, g, between bits pos at l (omega arith), between bits at end m n)
 
   -- the sets had a fault
-  pub block-bad-sets : (r : ReadEnd) (t : BlockEnd) → pos ≤ length bits → Came (readSets sheet b old (from pos bits)) row bits pos r
-      → (r .fault ≡ refusal.accepted → ⊥) → t ≡ noBlock (r .fault) pos → CameBlock sheet b old bits pos row bap codes t
+  pub block-bad-sets : (r : ReadEnd) (t : BlockEnd) → pos ≤ length bits → Came (readSets settings b old (from pos bits)) row bits pos r
+      → (r .fault ≡ refusal.accepted → ⊥) → t ≡ noBlock (r .fault) pos → CameBlock settings b old bits pos row bap codes t
   block-bad-sets r t l came h e =
       rw e (record {
         good = λ z. absurd (h z);
@@ -76,10 +75,10 @@ module _ (sheet : List ℕ) (b : ℕ) (old : List ℕ) (bits : List Bool) (pos :
         near = omega arith;
       })
 
-  module _ (r u : ReadEnd) (sets : Came (readSets sheet b old (from pos bits)) row bits pos r) (ok : r .fault ≡ refusal.accepted) (allocated : bap ≡ bapRow sheet row)
+  module _ (r u : ReadEnd) (sets : Came (readSets settings b old (from pos bits)) row bits pos r) (ok : r .fault ≡ refusal.accepted) (allocated : bap ≡ bapRow settings row)
       (stream : Came (readStream bap (from (r .pos) bits)) codes bits (r .pos) u) where
     -- the codes had a fault
-    pub block-bad-codes : (t : BlockEnd) → (u .fault ≡ refusal.accepted → ⊥) → t ≡ noBlock (u .fault) pos → CameBlock sheet b old bits pos row bap codes t
+    pub block-bad-codes : (t : BlockEnd) → (u .fault ≡ refusal.accepted → ⊥) → t ≡ noBlock (u .fault) pos → CameBlock settings b old bits pos row bap codes t
     block-bad-codes t h e =
         rw e (record {
           good = λ z. absurd (h z);
@@ -90,14 +89,14 @@ module _ (sheet : List ℕ) (b : ℕ) (old : List ℕ) (bits : List Bool) (pos :
         })
 
     -- no fault
-    pub block-good : {before : List ℕ} → checkOf sheet ≡ refusal.accepted → HeldRows sheet b old before → u .fault ≡ refusal.accepted → u .pos ≤ pos + mostBlock
-        → CameBlock sheet b old bits pos row bap codes
+    pub block-good : {before : List ℕ} → LegalSettings settings → HeldRows settings b old before → u .fault ≡ refusal.accepted → u .pos ≤ pos + mostBlock
+        → CameBlock settings b old bits pos row bap codes
         (record { fault = refusal.accepted; pos = u .pos; sets = r .pos - pos; stream = u .pos - r .pos })
-    block-good accepted held h near =
+    block-good under held h near =
         record {
           good = λ z. rw allocated (block-read (r .pos) (u .pos) (sets .later) (stream .later) (stream .within) (sets .good ok) (rw allocated at (stream .good h)));
           bad = λ z. absurd (z refl);
-          rows = λ z. rw allocated (rows-next sheet accepted b old (from pos bits) row (from (r .pos) bits) (held .row-long) (held .low) (sets .good ok));
+          rows = λ z. rw allocated (rows-next settings under b old (from pos bits) row (from (r .pos) bits) (held .row-long) (held .low) (sets .good ok));
           within = stream .within;
           near = near;
         }

@@ -14,9 +14,10 @@ use Rattle.bits.specs.Read.{from}
 use Rattle.bits.specs.Reading.{ok, fault, steps}
 use Rattle.bits.specs.ReadingLaws.{steps-start, steps-again, steps-fault}
 use Rattle.bits.specs.Refusal as refusal
-use Rattle.frame.specs.Answers.{turnedBack, gives, readingOf, readInto}
-use Rattle.frame.specs.Layout.{channels}
-use Rattle.sheet.specs.Sheet.{checkOf}
+use Rattle.sheet.specs.Settings.{channels}
+use Rattle.sheet.specs.LegalSettings.{LegalSettings}
+use Rattle.sheet.specs.declared.settings.Settings.{Settings}
+use Rattle.frame.specs.Answers.{refused, gives, readingOf, readInto}
 use Rattle.frame.specs.Reader.{Frame, grown, readBlock, nothing, readFrame}
 use Rattle.frame.specs.Under.{channel-known}
 use Rattle.frame.specs.declared.answer.FrameAnswer.{FrameAnswer}
@@ -38,40 +39,40 @@ heldFrame z b exps bap codes row sets streams =
     }
 
 -- b blocks were read, up to the position `at`
-pub record BlocksRead (sheet : List ℕ) (bits : List Bool) (b : ℕ) (exps bap codes row held sets streams : List ℕ) (at : ℕ) : Type 0 where
-  pub exps-long : length exps ≡ 256 * channels sheet * 6
-  pub bap-long : length bap ≡ 256 * channels sheet * 6
-  pub codes-long : length codes ≡ 256 * channels sheet * 6
+pub record BlocksRead (settings : Settings) (bits : List Bool) (b : ℕ) (exps bap codes row held sets streams : List ℕ) (at : ℕ) : Type 0 where
+  pub exps-long : length exps ≡ 256 * channels settings * 6
+  pub bap-long : length bap ≡ 256 * channels settings * 6
+  pub codes-long : length codes ≡ 256 * channels settings * 6
   pub sets-long : length sets ≡ 6
   pub streams-long : length streams ≡ 6
   pub inside : at ≤ length bits
   pub near : at ≤ mostBlock * b
-  pub rows : HeldRows sheet b row held
-  pub read : steps (readBlock sheet) b (nothing sheet) bits ≡ ok (heldFrame (256 * channels sheet) b exps bap codes row sets streams) (from at bits)
+  pub rows : HeldRows settings b row held
+  pub read : steps (readBlock settings) b (nothing settings) bits ≡ ok (heldFrame (256 * channels settings) b exps bap codes row sets streams) (from at bits)
 
 -- ---- no block yet
 
-zero-low : (sheet : List ℕ) → checkOf sheet ≡ refusal.accepted → (n : ℕ) → LowRow sheet (replicate n 0)
+zero-low : (settings : Settings) → LegalSettings settings → (n : ℕ) → LowRow settings (replicate n 0)
 unfolding piece
-zero-low sheet accepted n =
+zero-low settings under n =
     record {
       low = λ c h bin l.
-          let inside : bin < 256 = omega (arith, channel-known sheet accepted c h .end-most) in
+          let inside : bin < 256 = omega (arith, channel-known settings under c h .end-most) in
           let none : getD {A = ℕ} (take 256 (drop (256 * c) (replicate n 0))) bin 0 ≡ 0 =
           getD-take {A = ℕ} 256 (drop (256 * c) (replicate n 0)) bin 0 inside ∙ getD-drop {A = ℕ} (256 * c) (replicate n 0) bin 0 ∙ zero-past n (256 * c + bin) in
           omega (arith, none);
     }
 
-none-held : (sheet exps bap codes row sets streams : List ℕ) → row ≡ replicate (256 * channels sheet) 0
-    → nothing sheet ≡ heldFrame (256 * channels sheet) 0 exps bap codes row sets streams
+none-held : (settings : Settings) (exps bap codes row sets streams : List ℕ) → row ≡ replicate (256 * channels settings) 0
+    → nothing settings ≡ heldFrame (256 * channels settings) 0 exps bap codes row sets streams
 unfolding nothing heldFrame
-none-held sheet exps bap codes row sets streams e = rw (mul-zero, e)
+none-held settings exps bap codes row sets streams e = rw (mul-zero, e)
 
-pub blocks-start : (sheet : List ℕ) (bits : List Bool) (exps bap codes row held sets streams : List ℕ) → checkOf sheet ≡ refusal.accepted
-    → row ≡ replicate (256 * channels sheet) 0 → length held ≡ 256 * channels sheet → length exps ≡ 256 * channels sheet * 6 → length bap ≡ 256 * channels sheet * 6
-    → length codes ≡ 256 * channels sheet * 6 → length sets ≡ 6 → length streams ≡ 6 → BlocksRead sheet bits 0 exps bap codes row held sets streams 0
+pub blocks-start : (settings : Settings) (bits : List Bool) (exps bap codes row held sets streams : List ℕ) → LegalSettings settings
+    → row ≡ replicate (256 * channels settings) 0 → length held ≡ 256 * channels settings → length exps ≡ 256 * channels settings * 6 → length bap ≡ 256 * channels settings * 6
+    → length codes ≡ 256 * channels settings * 6 → length sets ≡ 6 → length streams ≡ 6 → BlocksRead settings bits 0 exps bap codes row held sets streams 0
 unfolding from
-blocks-start sheet bits exps bap codes row held sets streams accepted e h he hb hc hs ht =
+blocks-start settings bits exps bap codes row held sets streams under e h he hb hc hs ht =
     record {
       exps-long = he;
       bap-long = hb;
@@ -82,12 +83,12 @@ blocks-start sheet bits exps bap codes row held sets streams accepted e h he hb 
       near = omega arith;
       rows =
           record {
-            row-long = ap length e ∙ length-replicate {A = ℕ} (256 * channels sheet) 0;
+            row-long = ap length e ∙ length-replicate {A = ℕ} (256 * channels settings) 0;
             bap-long = h;
-            low = rw e (zero-low sheet accepted (256 * channels sheet));
+            low = rw e (zero-low settings under (256 * channels settings));
             kept = λ z. absurd (z refl);
           };
-      read = steps-start (readBlock sheet) (nothing sheet) bits ∙ ap (λ (s : Frame). ok s bits) (none-held sheet exps bap codes row sets streams e);
+      read = steps-start (readBlock settings) (nothing settings) bits ∙ ap (λ (s : Frame). ok s bits) (none-held settings exps bap codes row sets streams e);
     }
 
 -- ---- one block more
@@ -112,18 +113,18 @@ held-row : (z b : ℕ) (exps bap codes row sets streams : List ℕ) → heldFram
 unfolding heldFrame
 held-row z b exps bap codes row sets streams = refl
 
-module _ {sheet : List ℕ} {bits : List Bool} {b : ℕ} {exps bap codes row held sets streams : List ℕ} {at : ℕ}
-    (t : BlocksRead sheet bits b exps bap codes row held sets streams at) (h : b < 6)
-    {yr yh yc : List ℕ} {r : BlockEnd} (came : CameBlock sheet b row bits at yr yh yc r) where
-  blocks-fault : (r .fault ≡ refusal.accepted → ⊥) → readFrame sheet bits ≡ fault (r .fault)
+module _ {settings : Settings} {bits : List Bool} {b : ℕ} {exps bap codes row held sets streams : List ℕ} {at : ℕ}
+    (t : BlocksRead settings bits b exps bap codes row held sets streams at) (h : b < 6)
+    {yr yh yc : List ℕ} {r : BlockEnd} (came : CameBlock settings b row bits at yr yh yc r) where
+  blocks-fault : (r .fault ≡ refusal.accepted → ⊥) → readFrame settings bits ≡ fault (r .fault)
   unfolding readFrame
   blocks-fault bad =
-      steps-fault (readBlock sheet) b (r .fault) (nothing sheet) _ bits (from at bits) 6 h (t .read)
-      (came .bad bad _ (held-row (256 * channels sheet) b exps bap codes row sets streams))
+      steps-fault (readBlock settings) b (r .fault) (nothing settings) _ bits (from at bits) 6 h (t .read)
+      (came .bad bad _ (held-row (256 * channels settings) b exps bap codes row sets streams))
 
   -- with a fault: the answer has its number, whatever the buffers hold
-  pub frame-fault : (r .fault ≡ refusal.accepted → ⊥) → (exps' bap' codes' : List ℕ) (answer : FrameAnswer) → answer ≡ turnedBack (r .fault)
-      → CameFrame (readFrame sheet bits) bits exps' bap' codes' answer
+  pub frame-fault : (r .fault ≡ refusal.accepted → ⊥) → (exps' bap' codes' : List ℕ) (answer : FrameAnswer) → answer ≡ refused (r .fault)
+      → CameFrame (readFrame settings bits) bits exps' bap' codes' answer
   unfolding readingOf
   frame-fault bad exps' bap' codes' answer e =
       let never : answer .refusal ≡ refusal.accepted → ⊥ = λ z. bad (rw e at z) in
@@ -135,12 +136,12 @@ module _ {sheet : List ℕ} {bits : List Bool} {b : ℕ} {exps bap codes row hel
       }
 
   -- with none: its rows are copied into the buffers, its codes stand there, its counts are stored
-  pub blocks-more : (a k : ℕ) (ye yb : List ℕ) → r .fault ≡ refusal.accepted → a ≡ 256 * channels sheet * b → k ≡ 256 * channels sheet
-      → ye ≡ yr → yb ≡ yh → length yc ≡ 256 * channels sheet
-      → BlocksRead sheet bits (b + 1) (placed a k exps ye) (placed a k bap yb) (placed a k codes yc) yr yh
+  pub blocks-more : (a k : ℕ) (ye yb : List ℕ) → r .fault ≡ refusal.accepted → a ≡ 256 * channels settings * b → k ≡ 256 * channels settings
+      → ye ≡ yr → yb ≡ yh → length yc ≡ 256 * channels settings
+      → BlocksRead settings bits (b + 1) (placed a k exps ye) (placed a k bap yb) (placed a k codes yc) yr yh
       (set sets b (r .sets)) (set streams b (r .stream)) (r .pos)
   blocks-more a k ye yb good ea ek ce cb nc =
-      let z = 256 * channels sheet in
+      let z = 256 * channels settings in
       let rows = came .rows good in
       let fits : z * b + z ≤ z * 6 = within z b 6 h in
       let he : z * b + z ≤ length exps = omega (arith, t .exps-long) in
@@ -150,8 +151,8 @@ module _ {sheet : List ℕ} {bits : List Bool} {b : ℕ} {exps bap codes row hel
       let nb : length yb ≡ z = ap length cb ∙ rows .bap-long in
       let more = grown-held z b a k exps bap codes row sets streams ye yb yc yr (r .sets) (r .stream) ce ea ek he hb hc ne nb nc (omega (arith, t .sets-long)) (omega (arith, t .streams-long)) in
       let same : grown (heldFrame z b exps bap codes row sets streams) ye yb yc (r .sets) (r .stream) ≡ grown (heldFrame z b exps bap codes row sets streams) yr yh yc (r .sets) (r .stream) = rw (ce, cb) in
-      let read : steps (readBlock sheet) (b + 1) (nothing sheet) bits ≡ ok (grown (heldFrame z b exps bap codes row sets streams) yr yh yc (r .sets) (r .stream)) (from (r .pos) bits) =
-      steps-again (readBlock sheet) b (nothing sheet) _ bits (from at bits) _ (t .read) (came .good good _ (held-row z b exps bap codes row sets streams)) in
+      let read : steps (readBlock settings) (b + 1) (nothing settings) bits ≡ ok (grown (heldFrame z b exps bap codes row sets streams) yr yh yc (r .sets) (r .stream)) (from (r .pos) bits) =
+      steps-again (readBlock settings) b (nothing settings) _ bits (from at bits) _ (t .read) (came .good good _ (held-row z b exps bap codes row sets streams)) in
       record {
         exps-long = placed-length exps ye a k (omega arith) (ne ∙ sym ek) ∙ t .exps-long;
         bap-long = placed-length bap yb a k (omega arith) (nb ∙ sym ek) ∙ t .bap-long;
@@ -179,22 +180,22 @@ whole-held z exps bap codes row sets streams he hb hc hs ht =
       take-all 6 streams (omega arith),
     )
 
-module _ {sheet : List ℕ} {bits : List Bool} {exps bap codes row held sets streams : List ℕ} {at : ℕ}
-    (t : BlocksRead sheet bits 6 exps bap codes row held sets streams at) where
-  frame-read : readFrame sheet bits
+module _ {settings : Settings} {bits : List Bool} {exps bap codes row held sets streams : List ℕ} {at : ℕ}
+    (t : BlocksRead settings bits 6 exps bap codes row held sets streams at) where
+  frame-read : readFrame settings bits
       ≡ ok (record { exps = exps; bap = bap; codes = codes; row = row; exponentBits = sets; mantissaBits = streams }) (from at bits)
   unfolding readFrame
   frame-read =
       t .read
       ∙ ap (λ (s : Frame). ok s (from at bits))
-      (whole-held (256 * channels sheet) exps bap codes row sets streams (t .exps-long) (t .bap-long) (t .codes-long) (t .sets-long) (t .streams-long))
+      (whole-held (256 * channels settings) exps bap codes row sets streams (t .exps-long) (t .bap-long) (t .codes-long) (t .sets-long) (t .streams-long))
 
   -- the bits that were read
   spent : length bits - length (from at bits) ≡ at
   unfolding from
   spent = rw length-drop (omega (arith, t .inside))
 
-  pub frame-good : (counts : List ℕ) → counts ≡ sets ++ streams → CameFrame (readFrame sheet bits) bits exps bap codes (gives counts at)
+  pub frame-good : (counts : List ℕ) → counts ≡ sets ++ streams → CameFrame (readFrame settings bits) bits exps bap codes (gives counts at)
   unfolding readingOf readInto
   frame-good counts e =
       record {

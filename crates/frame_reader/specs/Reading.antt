@@ -8,9 +8,11 @@ use lib.ListN.{length}
 use Rattle.bits.specs.Read.{from}
 use Rattle.bits.specs.Reading.{Outcome, ok, fault}
 use Rattle.bits.specs.Refusal as refusal
+use Rattle.sheet.specs.Settings.{channels}
+use Rattle.sheet.specs.Sizes.{mostChannels, mostRow}
+use Rattle.sheet.specs.declared.settings.Settings.{Settings}
 use Rattle.frame.specs.Answers.{readingOf, expsRead, bapRead, codesRead, readInto}
 use Rattle.frame.specs.Body.{bapRow}
-use Rattle.frame.specs.Layout.{channels}
 use Rattle.frame.specs.Reader.{Frame, grown, readBlock}
 use Rattle.frame.specs.declared.answer.FrameAnswer.{FrameAnswer}
 use Rattle.frame_rows.specs.Inner.{LowRow}
@@ -22,33 +24,33 @@ use Rattle.frame_reader.specs.declared.block.BlockEnd.{BlockEnd}
 abbrev pub mostSet : ℕ
 mostSet = 4 + 7 * 84
 
--- of the sets of a block: one for each of six channels
+-- of the sets of a block: one for each channel
 abbrev pub mostSets : ℕ
-mostSets = 6 * mostSet
+mostSets = mostChannels * mostSet
 
--- of a block: its sets, then at most 16 bits for each of 1,536 codes
+-- of a block: its sets, then at most 16 bits for each code of a row
 abbrev pub mostBlock : ℕ
-mostBlock = mostSets + 16 * 1536
+mostBlock = mostSets + 16 * mostRow
 
 -- ---- a block
 
 -- what holds when block b begins: exponents of at most 24, and their allocation once a block was read
-pub record HeldRows (sheet : List ℕ) (b : ℕ) (row bap : List ℕ) : Type 0 where
-  pub row-long : length row ≡ 256 * channels sheet
-  pub bap-long : length bap ≡ 256 * channels sheet
-  pub low : LowRow sheet row
-  pub kept : (b ≡ 0 → ⊥) → bap ≡ bapRow sheet row
+pub record HeldRows (settings : Settings) (b : ℕ) (row bap : List ℕ) : Type 0 where
+  pub row-long : length row ≡ 256 * channels settings
+  pub bap-long : length bap ≡ 256 * channels settings
+  pub low : LowRow settings row
+  pub kept : (b ≡ 0 → ⊥) → bap ≡ bapRow settings row
 
 -- a block with a fault
 abbrev pub noBlock : ℕ → ℕ → BlockEnd
 noBlock number pos = record { fault = number; pos = pos; sets = 0; stream = 0 }
 
 -- block b was read at pos, from any state whose row is `old`
-pub record CameBlock (sheet : List ℕ) (b : ℕ) (old : List ℕ) (bits : List Bool) (pos : ℕ) (row bap codes : List ℕ) (r : BlockEnd) : Type 0 where
+pub record CameBlock (settings : Settings) (b : ℕ) (old : List ℕ) (bits : List Bool) (pos : ℕ) (row bap codes : List ℕ) (r : BlockEnd) : Type 0 where
   pub good : r .fault ≡ refusal.accepted → (s : Frame) → s .row ≡ old
-      → readBlock sheet b s (from pos bits) ≡ ok (grown s row bap codes (r .sets) (r .stream)) (from (r .pos) bits)
-  pub bad : (r .fault ≡ refusal.accepted → ⊥) → (s : Frame) → s .row ≡ old → readBlock sheet b s (from pos bits) ≡ fault (r .fault)
-  pub rows : r .fault ≡ refusal.accepted → HeldRows sheet (b + 1) row bap
+      → readBlock settings b s (from pos bits) ≡ ok (grown s row bap codes (r .sets) (r .stream)) (from (r .pos) bits)
+  pub bad : (r .fault ≡ refusal.accepted → ⊥) → (s : Frame) → s .row ≡ old → readBlock settings b s (from pos bits) ≡ fault (r .fault)
+  pub rows : r .fault ≡ refusal.accepted → HeldRows settings (b + 1) row bap
   pub within : r .pos ≤ length bits
   pub near : r .pos ≤ pos + mostBlock
 

@@ -8,18 +8,18 @@ use lib.ListN.{length, getD, replicate, length-append, length-replicate, List·g
 use Rattle.bits.specs.Parts.{piece}
 use Rattle.bits.specs.Reading.{ok}
 use Rattle.bits.specs.ReadingLaws.{then-ok, gather-parts}
-use Rattle.bits.specs.Refusal as refusal
 use Rattle.exponents.specs.ReadShaped.{exponents-read}
 use Rattle.exponents.specs.Reading.{readExponents}
 use Rattle.shaping.specs.Passes.{isSpan}
 use Rattle.shaping.specs.ShapedLaws.{shaped-at-most}
 use Rattle.sheet.specs.Laws.{reuse-not-new}
 use Rattle.sheet.specs.Ranges.{legalEnd}
-use Rattle.sheet.specs.Sheet.{checkOf}
 use Rattle.sheet.specs.declared.record.ExponentSet.{ExponentSet}
 use Rattle.sheet.specs.declared.record.ExponentSet.the-variants.{Reuse, New}
+use Rattle.sheet.specs.Settings.{channels, endAt, setAt}
+use Rattle.sheet.specs.LegalSettings.{LegalSettings}
+use Rattle.sheet.specs.declared.settings.Settings.{Settings}
 use Rattle.frame.specs.Body.{bapPart, bapRow}
-use Rattle.frame.specs.Layout.{channels, endAt, setAt}
 use Rattle.frame.specs.LayoutLaws.{length-part, length-bapRow, piece-bap}
 use Rattle.frame.specs.Reader.{readPart, readSets}
 use Rattle.frame.specs.Under.{KnownSet, channel-known, known-set}
@@ -56,33 +56,33 @@ part-read (New span) end old bits part rest known legal most long low e =
 
 -- ---- the row
 
-module _ (sheet : List ℕ) (accepted : checkOf sheet ≡ refusal.accepted) (b : ℕ) (old : List ℕ) (bits : List Bool) (row : List ℕ) (rest : List Bool)
-    (long : length old ≡ 256 * channels sheet) (low : LowRow sheet old) (e : readSets sheet b old bits ≡ ok row rest) where
-  parts-read : (length row ≡ 256 * channels sheet) × ((c : ℕ) → c < channels sheet → PartRead (setAt sheet b c) (endAt sheet c) (piece 256 c old) (piece 256 c row))
+module _ (settings : Settings) (under : LegalSettings settings) (b : ℕ) (old : List ℕ) (bits : List Bool) (row : List ℕ) (rest : List Bool)
+    (long : length old ≡ 256 * channels settings) (low : LowRow settings old) (e : readSets settings b old bits ≡ ok row rest) where
+  parts-read : (length row ≡ 256 * channels settings) × ((c : ℕ) → c < channels settings → PartRead (setAt settings b c) (endAt settings c) (piece 256 c old) (piece 256 c row))
   unfolding readSets
   parts-read =
-      gather-parts 256 (λ c part. PartRead (setAt sheet b c) (endAt sheet c) (piece 256 c old) part) _ (channels sheet)
+      gather-parts 256 (λ c part. PartRead (setAt settings b c) (endAt settings c) (piece 256 c old) part) _ (channels settings)
       (λ c h t v u q.
-      let known = channel-known sheet accepted c h in
-      let most : endAt sheet c ≤ 256 = omega (arith, known .end-most) in
-      part-read (setAt sheet b c) (endAt sheet c) (piece 256 c old) t v u (known-set sheet b c) (known .legal) most (length-part sheet old c long h) (low .low c h) q)
+      let known = channel-known settings under c h in
+      let most : endAt settings c ≤ 256 = omega (arith, known .end-most) in
+      part-read (setAt settings b c) (endAt settings c) (piece 256 c old) t v u (known-set settings under b c) (known .legal) most (length-part settings old c long h) (low .low c h) q)
       bits row rest e
 
-  pub row-long : length row ≡ 256 * channels sheet
+  pub row-long : length row ≡ 256 * channels settings
   row-long = parts-read .0
 
-  pub row-low : LowRow sheet row
+  pub row-low : LowRow settings row
   row-low = record { low = λ c h. parts-read .1 c h .low }
 
   -- where the block is reuse the bap that was held is the row's
-  pub row-kept : (bap : List ℕ) → ((b ≡ 0 → ⊥) → bap ≡ bapRow sheet old) → KeptBap sheet b row bap
+  pub row-kept : (bap : List ℕ) → ((b ≡ 0 → ⊥) → bap ≡ bapRow settings old) → KeptBap settings b row bap
   row-kept bap held =
       record {
         kept = λ c h z.
-            let later : b ≡ 0 → ⊥ = λ q. channel-known sheet accepted c h .first (rw q at z) in
-            ap (piece 256 c) (held later) ∙ piece-bap sheet old c h ∙ ap (bapPart sheet c) (sym (parts-read .1 c h .repeats z));
+            let later : b ≡ 0 → ⊥ = λ q. channel-known settings under c h .first (rw q at z) in
+            ap (piece 256 c) (held later) ∙ piece-bap settings old c h ∙ ap (bapPart settings c) (sym (parts-read .1 c h .repeats z));
       }
 
   -- so the rows are held for the next block
-  pub rows-next : HeldRows sheet (b + 1) row (bapRow sheet row)
-  rows-next = record { row-long = row-long; bap-long = length-bapRow sheet row; low = row-low; kept = λ z. refl }
+  pub rows-next : HeldRows settings (b + 1) row (bapRow settings row)
+  rows-next = record { row-long = row-long; bap-long = length-bapRow settings row; low = row-low; kept = λ z. refl }

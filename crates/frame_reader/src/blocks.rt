@@ -2,13 +2,15 @@
 use crate::block::get_block;
 use bits::refusal::ACCEPTED;
 use frame::FrameAnswer;
-use frame::Track;
 use sheet::BlockSet;
+use sheet::MOST_CHANNELS;
+use sheet::Settings;
 ghost use mathlib.Core.Path.{_≡_};
 ghost use mathlib.Core.List.{_++_};
 ghost use Prim.Native.Nat.{_*_};
 ghost use lib.ListN.{length, replicate};
 ghost use Rattle.bits.specs.Field.{bitsOf};
+ghost use Rattle.sheet.specs.Settings.{channels};
 ghost use Rattle.frame.specs.Reader.{readFrame};
 ghost use Rattle.frame.specs.Under.{Under};
 ghost use Rattle.frame_reader.specs.Reading.{CameFrame};
@@ -35,9 +37,8 @@ fn twelve(sets: [u32; 6], streams: [u32; 6]) -> [u32; 12]
 
 // The blocks up to the first fault. `row` and `held` have the exponents and the bap that hold when a block begins.
 pub(crate) fn get_blocks(
-    sheet: &[u8],
-    track: Track,
-    strategies: [[BlockSet; 6]; 6],
+    settings: Settings,
+    strategies: [[BlockSet; 6]; MOST_CHANNELS],
     input: &[u8],
     row: &mut [u8],
     held: &mut [u8],
@@ -45,21 +46,21 @@ pub(crate) fn get_blocks(
     bap: &mut [u8],
     codes: &mut [u16],
 ) -> FrameAnswer
-    requires { ⌜ Under (now sheet) track strategies ⌝ }
-    requires { ⌜ (now row ≡ replicate (256 * track .channels) 0) × (length (now held) ≡ 256 * track .channels) ⌝ }
-    requires { ⌜ (length (now exps) ≡ 256 * track .channels * 6) × (length (now bap) ≡ 256 * track .channels * 6) × (length (now codes) ≡ 256 * track .channels * 6) ⌝ }
-    ensures { λ r. ⌜ CameFrame (readFrame (now (sheet .entry)) (bitsOf (now (input .entry)))) (bitsOf (now (input .entry))) (now (exps .exit)) (now (bap .exit)) (now (codes .exit)) r ⌝ }
+    requires { ⌜ Under settings strategies ⌝ }
+    requires { ⌜ (now row ≡ replicate (256 * channels settings) 0) × (length (now held) ≡ 256 * channels settings) ⌝ }
+    requires { ⌜ (length (now exps) ≡ 256 * channels settings * 6) × (length (now bap) ≡ 256 * channels settings * 6) × (length (now codes) ≡ 256 * channels settings * 6) ⌝ }
+    ensures { λ r. ⌜ CameFrame (readFrame settings (bitsOf (now (input .entry)))) (bitsOf (now (input .entry))) (now (exps .exit)) (now (bap .exit)) (now (codes .exit)) r ⌝ }
 {
-    let n = 256 * track.channels;
+    let n = sheet::channels(settings);
+    let z = 256 * n;
     let mut sets = [0u32; 6];
     let mut streams = [0u32; 6];
     let mut at = 0;
     for b in 0..6 {
-        let a = n * b;
-        let e = a + n;
+        let a = z * b;
+        let e = a + z;
         let r = get_block(
-            sheet,
-            track,
+            settings,
             strategies,
             b,
             input,

@@ -1,9 +1,10 @@
 // The exponents of a block, read in place over those of the block before.
 use bits::ReadEnd;
 use bits::refusal::ACCEPTED;
-use frame::Track;
 use sheet::BlockSet;
 use sheet::ExponentSet;
+use sheet::MOST_CHANNELS;
+use sheet::Settings;
 use sheet::read::wide;
 ghost use mathlib.Core.Path.{_≡_};
 ghost use mathlib.Core.Bool.{true};
@@ -12,6 +13,7 @@ ghost use lib.ListN.{length};
 ghost use Rattle.bits.specs.Field.{bitsOf};
 ghost use Rattle.bits.specs.Read.{from, Came};
 ghost use Rattle.sheet.specs.Ranges.{legalEnd};
+ghost use Rattle.sheet.specs.Settings.{channels};
 ghost use Rattle.frame.specs.Reader.{readPart, readSets};
 ghost use Rattle.frame.specs.Under.{Under, KnownSet};
 ghost use Rattle.frame_reader.specs.Reading.{mostSet, mostSets};
@@ -34,24 +36,24 @@ fn get_part(input: &[u8], pos: usize, set: ExponentSet, end: usize, part: &mut [
 
 // The row of block b.
 pub(crate) fn get_sets(
-    sheet: &[u8],
-    track: Track,
-    strategies: [[BlockSet; 6]; 6],
+    settings: Settings,
+    strategies: [[BlockSet; 6]; MOST_CHANNELS],
     b: usize,
     input: &[u8],
     pos: usize,
     row: &mut [u8],
 ) -> ReadEnd
-    requires { ⌜ Under (now sheet) track strategies ⌝ }
-    requires { ⌜ (b < 6) × (length (now row) ≡ 256 * track .channels) ⌝ }
+    requires { ⌜ Under settings strategies ⌝ }
+    requires { ⌜ (b < 6) × (length (now row) ≡ 256 * channels settings) ⌝ }
     requires { ⌜ (pos ≤ 8 * length (now input)) × (pos < 2 ^ 31) ⌝ }
-    ensures { λ r. ⌜ Came (readSets (now (sheet .entry)) b (now (row .entry)) (from pos (bitsOf (now (input .entry))))) (now (row .exit)) (bitsOf (now (input .entry))) pos r ⌝ }
+    ensures { λ r. ⌜ Came (readSets settings b (now (row .entry)) (from pos (bitsOf (now (input .entry))))) (now (row .exit)) (bitsOf (now (input .entry))) pos r ⌝ }
     ensures { λ r. ⌜ r .pos ≤ pos + mostSets ⌝ }
 {
+    let n = sheet::channels(settings);
     let mut at = pos;
-    for c in 0..track.channels {
-        let set = frame::set_at(strategies, b, c);
-        let end = track.ends[c];
+    for c in 0..n {
+        let set = sheet::set_at(strategies, b, c);
+        let end = sheet::end_at(settings, c);
         let a = 256 * c;
         let e = a + 256;
         let r = get_part(input, at, set, end, &mut row[a..e]);

@@ -8,26 +8,26 @@ use lib.ListN.{length, take, drop, getD, replicate, length-append, length-take, 
 use lib.Seq.{take-at, length-take-le, length-front}
 use Rattle.bits.specs.Parts.{joined, piece}
 use Rattle.bits.specs.PartsLaws.{joined-length, piece-joined, within, front-taken, placed}
-use Rattle.bits.specs.Refusal as refusal
-use Rattle.sheet.specs.Sheet.{checkOf}
-use Rattle.sheet.specs.declared.record.BlockSet.{BlockSet}
+use Rattle.sheet.specs.Settings.{channels}
+use Rattle.sheet.specs.LegalSettings.{ChannelCount, LegalSettings}
+use Rattle.sheet.specs.Sizes.{mostChannels, mostRow, mostBuffer}
+use Rattle.sheet.specs.declared.settings.Settings.{Settings}
 use Rattle.frame.specs.Body.{bapRow}
-use Rattle.frame.specs.Layout.{channels, rowOf, clean, cleanRow}
+use Rattle.frame.specs.Layout.{rowOf, clean, cleanRow}
 use Rattle.frame.specs.LayoutLaws.{length-row, length-bapRow, length-cleanRow}
-use Rattle.frame.specs.Under.{Under, held-channels, channels-some}
-use Rattle.frame.specs.declared.track.Track.{Track}
 use Rattle.frame_rows.specs.Inner.{noRow, noBuffer}
 use Rattle.frame_rows.specs.Rows.{bapsOf, cleaned}
+use Rattle.frame_rows.specs.Walks.{lent-long}
 
 -- ---- buffers that are all 0
 
-pub length-noRow : length noRow ≡ 1536
+pub length-noRow : length noRow ≡ mostRow
 unfolding noRow
-length-noRow = length-replicate {A = ℕ} 1536 0
+length-noRow = length-replicate {A = ℕ} mostRow 0
 
-pub length-noBuffer : length noBuffer ≡ 9216
+pub length-noBuffer : length noBuffer ≡ mostBuffer
 unfolding noBuffer
-length-noBuffer = length-replicate {A = ℕ} 9216 0
+length-noBuffer = length-replicate {A = ℕ} mostBuffer 0
 
 -- an entry of zeros is 0, and so is what stands past them
 pub zero-past : (n i : ℕ) → getD {A = ℕ} (replicate n 0) i 0 ≡ 0
@@ -48,8 +48,8 @@ module _ (n : ℕ) (l ys : List ℕ) (fits : n ≤ length l) (kept : length ys �
   pub back-taken : take (n - 0) (ys ++ drop (n - 0) l) ≡ ys
   back-taken = front-taken n (n - 0) l ys (sub-zero n) back-length
 
--- a buffer for six channels, lent for those of a sheet
-module _ (channels : ℕ) (l : List ℕ) (e : l ≡ noBuffer) (most : channels ≤ 6) where
+-- a buffer for the most channels, lent for those of a sheet
+module _ (channels : ℕ) (l : List ℕ) (e : l ≡ noBuffer) (most : channels ≤ mostChannels) where
   buffer-fits : 256 * channels * 6 ≤ length l
   buffer-fits = omega (arith, ap length e ∙ length-noBuffer)
 
@@ -85,47 +85,57 @@ clean-made end codes to ys zs most codes-long to-long copied cleared =
     let none : drop (256 - end) (drop end l) ≡ [] = drop-of-length-le (drop end l) past in
     ap₂ (λ (x y : List ℕ). x ++ y) (take-at ys (drop (end - 0) to) end n ∙ here) (ap₂ (λ (x y : List ℕ). x ++ y) zeros none ∙ append-nil (replicate (256 - end) 0))
 
--- ---- what is held of a sheet
+-- ---- the number of channels, held by value
 
-module _ {sheet : List ℕ} {track : Track} {strategies : List (List BlockSet)} (u : Under sheet track strategies) where
-  pub held-most : track .channels ≤ 6
-  held-most = omega (arith, held-channels u, channels-some sheet (u .accepted) .1)
-
+module _ {settings : Settings} {n : ℕ} (many : ChannelCount settings n) where
   -- a channel's part lies within its row, and a row within its buffer
-  pub part-inside : (c : ℕ) → c < track .channels → (256 * c + 256 ≤ 256 * track .channels) × (track .channels ≤ 6)
-  part-inside c h = (within 256 c (track .channels) h, held-most)
+  pub part-inside : (c : ℕ) → c < n → (256 * c + 256 ≤ 256 * n) × (n ≤ mostChannels)
+  part-inside c h = (within 256 c n h, many .most)
 
-  pub row-inside : (b : ℕ) → b < 6 → (256 * track .channels * b + 256 * track .channels ≤ 256 * track .channels * 6) × (track .channels ≤ 6)
-  row-inside b h = (within (256 * track .channels) b 6 h, held-most)
+  pub row-inside : (b : ℕ) → b < 6 → (256 * n * b + 256 * n ≤ 256 * n * 6) × (n ≤ mostChannels)
+  row-inside b h = (within (256 * n) b 6 h, many .most)
+
+  pub channel-there : (c : ℕ) → c < n → c < channels settings
+  channel-there c h = omega (arith, many .is)
+
+  -- so many entries, by the number that is held
+  pub row-held : {k : ℕ} → k ≡ 256 * channels settings → k ≡ 256 * n
+  row-held e = omega (arith, many .is)
+
+  pub buffer-held : {k : ℕ} → k ≡ 256 * channels settings * 6 → k ≡ 256 * n * 6
+  buffer-held e = omega (arith, many .is)
+
+  pub row-long : {A : Type 0} (b : ℕ) → b < 6 → (l : List A) → length l ≡ 256 * channels settings * 6
+      → length (take (256 * n * b + 256 * n - 256 * n * b) (drop (256 * n * b) l)) ≡ 256 * channels settings
+  row-long b h l long = omega (arith, lent-long (256 * n) 6 b h l (buffer-held long), many .is)
 
   -- the row that is lent of a buffer
-  pub row-lent : (b : ℕ) (l : List ℕ)
-      → take (256 * track .channels * b + 256 * track .channels - 256 * track .channels * b) (drop (256 * track .channels * b) l) ≡ rowOf sheet b l
+  pub row-lent : (b : ℕ) (l : List ℕ) → take (256 * n * b + 256 * n - 256 * n * b) (drop (256 * n * b) l) ≡ rowOf settings b l
   unfolding rowOf piece
   row-lent b l =
-      let all : 256 * channels sheet * b + 256 * channels sheet - 256 * channels sheet * b ≡ 256 * channels sheet = omega arith in
-      rw (held-channels u, all)
+      let all : 256 * channels settings * b + 256 * channels settings - 256 * channels settings * b ≡ 256 * channels settings = omega arith in
+      rw (many .is, all)
 
 -- ---- the rows of a whole frame
 
-row-joined : (sheet : List ℕ) (f : ℕ → List ℕ) (b : ℕ) → ((j : ℕ) → j < 6 → length (f j) ≡ 256 * channels sheet) → b < 6 → rowOf sheet b (joined 6 f) ≡ f b
+row-joined : (settings : Settings) (f : ℕ → List ℕ) (b : ℕ) → ((j : ℕ) → j < 6 → length (f j) ≡ 256 * channels settings) → b < 6 → rowOf settings b (joined 6 f) ≡ f b
 unfolding rowOf
-row-joined sheet f b h l = piece-joined (256 * channels sheet) f 6 b h l
+row-joined settings f b h l = piece-joined (256 * channels settings) f 6 b h l
 
-pub length-baps : (sheet exps : List ℕ) → length (bapsOf sheet exps) ≡ 256 * channels sheet * 6
+pub length-baps : (settings : Settings) (exps : List ℕ) → length (bapsOf settings exps) ≡ 256 * channels settings * 6
 unfolding bapsOf
-length-baps sheet exps = joined-length (256 * channels sheet) _ 6 (λ b l. length-bapRow sheet (rowOf sheet b exps))
+length-baps settings exps = joined-length (256 * channels settings) _ 6 (λ b l. length-bapRow settings (rowOf settings b exps))
 
-pub row-baps : (sheet exps : List ℕ) (b : ℕ) → b < 6 → rowOf sheet b (bapsOf sheet exps) ≡ bapRow sheet (rowOf sheet b exps)
+pub row-baps : (settings : Settings) (exps : List ℕ) (b : ℕ) → b < 6 → rowOf settings b (bapsOf settings exps) ≡ bapRow settings (rowOf settings b exps)
 unfolding bapsOf
-row-baps sheet exps b h = row-joined sheet (λ j. bapRow sheet (rowOf sheet j exps)) b (λ j l. length-bapRow sheet (rowOf sheet j exps)) h
+row-baps settings exps b h = row-joined settings (λ j. bapRow settings (rowOf settings j exps)) b (λ j l. length-bapRow settings (rowOf settings j exps)) h
 
-module _ (sheet l : List ℕ) (accepted : checkOf sheet ≡ refusal.accepted) (long : length l ≡ 256 * channels sheet * 6) where
-  pub length-cleaned : length (cleaned sheet l) ≡ 256 * channels sheet * 6
+module _ (settings : Settings) (l : List ℕ) (under : LegalSettings settings) (long : length l ≡ 256 * channels settings * 6) where
+  pub length-cleaned : length (cleaned settings l) ≡ 256 * channels settings * 6
   unfolding cleaned
-  length-cleaned = joined-length (256 * channels sheet) _ 6 (λ b h. length-cleanRow sheet accepted (rowOf sheet b l) (length-row sheet l b long h))
+  length-cleaned = joined-length (256 * channels settings) _ 6 (λ b h. length-cleanRow settings under (rowOf settings b l) (length-row settings l b long h))
 
-  pub row-cleaned : (b : ℕ) → b < 6 → rowOf sheet b (cleaned sheet l) ≡ cleanRow sheet (rowOf sheet b l)
+  pub row-cleaned : (b : ℕ) → b < 6 → rowOf settings b (cleaned settings l) ≡ cleanRow settings (rowOf settings b l)
   unfolding cleaned
   row-cleaned b h =
-      row-joined sheet (λ j. cleanRow sheet (rowOf sheet j l)) b (λ j k. length-cleanRow sheet accepted (rowOf sheet j l) (length-row sheet l j long k)) h
+      row-joined settings (λ j. cleanRow settings (rowOf settings j l)) b (λ j k. length-cleanRow settings under (rowOf settings j l) (length-row settings l j long k)) h

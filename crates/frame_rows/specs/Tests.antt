@@ -5,6 +5,7 @@ use mathlib.Core.List.{List}
 use lib.ListN.{drop}
 use Rattle.mantissas.specs.Stream.{coded}
 use Rattle.sheet.specs.Ranges.{allBelow}
+use Rattle.sheet.specs.declared.settings.Settings.{Settings}
 use Rattle.frame.specs.Layout.{rowOf}
 use Rattle.frame.specs.Legal.{alike}
 
@@ -13,5 +14,5 @@ unfoldable pub alikeFrom : ℕ → List ℕ → List ℕ → Bool
 alikeFrom i xs ys = alike (drop i xs) (drop i ys)
 
 -- cause 5: each block's codes are in range for its bap, both as they stand in a buffer
-unfoldable pub rowsCoded : List ℕ → List ℕ → List ℕ → Bool
-rowsCoded sheet bap codes = allBelow 6 (λ b. coded (rowOf sheet b bap) (rowOf sheet b codes))
+unfoldable pub rowsCoded : Settings → List ℕ → List ℕ → Bool
+rowsCoded settings bap codes = allBelow 6 (λ b. coded (rowOf settings b bap) (rowOf settings b codes))

@@ -10,14 +10,15 @@ use lib.ListN.{length, take, getD, drop-of-length-le}
 use lib.Seq.{drop-cons}
 use borrow.Author.Tests.{eq-eqb, ne-eqb}
 use Rattle.bits.specs.Parts.{piece}
-use Rattle.bits.specs.Refusal as refusal
 use Rattle.mantissas.specs.Stream.{coded}
 use Rattle.shaping.specs.Passes.{isSpan}
 use Rattle.shaping.specs.Shaped.{shapedFor}
-use Rattle.sheet.specs.Sheet.{checkOf}
 use Rattle.sheet.specs.declared.record.ExponentSet.{ExponentSet}
 use Rattle.sheet.specs.declared.record.ExponentSet.the-variants.{Reuse, New}
-use Rattle.frame.specs.Layout.{channels, endAt, setAt, rowOf}
+use Rattle.sheet.specs.Settings.{channels, endAt, setAt}
+use Rattle.sheet.specs.LegalSettings.{LegalSettings}
+use Rattle.sheet.specs.declared.settings.Settings.{Settings}
+use Rattle.frame.specs.Layout.{rowOf}
 use Rattle.frame.specs.Legal.{alike, partLegal, rowLegal, codesLegal}
 use Rattle.frame.specs.Reader.{earlier}
 use Rattle.frame.specs.Under.{channel-known}
@@ -30,11 +31,11 @@ use Rattle.frame_rows.specs.Tests.{rowsCoded, alikeFrom}
 -- ---- codes
 
 -- clean codes under their bap are in range where the codes are
-pub rows-coded : (sheet exps codes : List ℕ) → checkOf sheet ≡ refusal.accepted → length codes ≡ 256 * channels sheet * 6
-    → rowsCoded sheet (bapsOf sheet exps) (cleaned sheet codes) ≡ codesLegal sheet exps codes
+pub rows-coded : (settings : Settings) (exps codes : List ℕ) → LegalSettings settings → length codes ≡ 256 * channels settings * 6
+    → rowsCoded settings (bapsOf settings exps) (cleaned settings codes) ≡ codesLegal settings exps codes
 unfolding rowsCoded codesLegal
-rows-coded sheet exps codes accepted long =
-    all-below-same 6 _ _ (λ b h. ap₂ coded (row-baps sheet exps b h) (row-cleaned sheet codes accepted long b h))
+rows-coded settings exps codes under long =
+    all-below-same 6 _ _ (λ b h. ap₂ coded (row-baps settings exps b h) (row-cleaned settings codes under long b h))
 
 -- ---- two lists, from an entry on: what is left decides
 
@@ -77,15 +78,15 @@ part-after Reuse end old other part h = ap (λ (l : List ℕ). alike l (take end
 part-after (New span) end old other part h = refl
 
 -- so the block before may be taken as it stands in the buffer
-below-end : (sheet exps : List ℕ) → checkOf sheet ≡ refusal.accepted → length exps ≡ 256 * channels sheet * 6 → (b c : ℕ) → b < 6 → c < channels sheet
-    → setAt sheet b c ≡ Reuse
-    → take (endAt sheet c) (piece 256 c (rowOf sheet (b - 1) exps)) ≡ take (endAt sheet c) (piece 256 c (earlier sheet exps b))
-below-end sheet exps accepted long zero c hb hc z = absurd (channel-known sheet accepted c hc .first z)
-below-end sheet exps accepted long (suc b) c hb hc z = let e : suc b - 1 ≡ b = omega arith in rw e (sym (earlier-taken sheet exps accepted long b c hb hc))
+below-end : (settings : Settings) (exps : List ℕ) → LegalSettings settings → length exps ≡ 256 * channels settings * 6 → (b c : ℕ) → b < 6 → c < channels settings
+    → setAt settings b c ≡ Reuse
+    → take (endAt settings c) (piece 256 c (rowOf settings (b - 1) exps)) ≡ take (endAt settings c) (piece 256 c (earlier settings exps b))
+below-end settings exps under long zero c hb hc z = absurd (channel-known settings under c hc .first z)
+below-end settings exps under long (suc b) c hb hc z = let e : suc b - 1 ≡ b = omega arith in rw e (sym (earlier-taken settings exps under long b c hb hc))
 
-pub row-after : (sheet exps : List ℕ) → checkOf sheet ≡ refusal.accepted → length exps ≡ 256 * channels sheet * 6 → (b : ℕ) → b < 6
-    → rowLegal sheet b (rowOf sheet (b - 1) exps) (rowOf sheet b exps) ≡ rowLegal sheet b (earlier sheet exps b) (rowOf sheet b exps)
+pub row-after : (settings : Settings) (exps : List ℕ) → LegalSettings settings → length exps ≡ 256 * channels settings * 6 → (b : ℕ) → b < 6
+    → rowLegal settings b (rowOf settings (b - 1) exps) (rowOf settings b exps) ≡ rowLegal settings b (earlier settings exps b) (rowOf settings b exps)
 unfolding rowLegal
-row-after sheet exps accepted long b hb =
-    all-below-same (channels sheet) _ _
-    (λ c hc. part-after (setAt sheet b c) (endAt sheet c) _ _ (piece 256 c (rowOf sheet b exps)) (below-end sheet exps accepted long b c hb hc))
+row-after settings exps under long b hb =
+    all-below-same (channels settings) _ _
+    (λ c hc. part-after (setAt settings b c) (endAt settings c) _ _ (piece 256 c (rowOf settings b exps)) (below-end settings exps under long b c hb hc))

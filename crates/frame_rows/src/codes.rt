@@ -3,10 +3,10 @@ ghost use mathlib.Core.Path.{_≡_};
 ghost use Prim.Native.Nat.{_*_, _≤_};
 ghost use lib.ListN.{length};
 ghost use Rattle.frame.specs.Layout.{clean, cleanRow};
-ghost use Rattle.frame.specs.Under.{Under};
 ghost use Rattle.frame_rows.specs.Rows.{cleaned};
-use frame::Track;
-use sheet::BlockSet;
+ghost use Rattle.sheet.specs.LegalSettings.{LegalSettings};
+ghost use Rattle.sheet.specs.Settings.{channels};
+use sheet::Settings;
 
 // A channel's codes below end, and 0 from there on.
 fn clean_part(codes: &[u16], end: usize, to: &mut [u16])
@@ -18,19 +18,14 @@ fn clean_part(codes: &[u16], end: usize, to: &mut [u16])
 }
 
 // Those of a block.
-fn clean_row(
-    sheet: &[u8],
-    track: Track,
-    strategies: [[BlockSet; 6]; 6],
-    codes: &[u16],
-    to: &mut [u16],
-)
-    requires { ⌜ Under (now sheet) track strategies ⌝ }
-    requires { ⌜ (length (now codes) ≡ 256 * track .channels) × (length (now to) ≡ 256 * track .channels) ⌝ }
-    ensures { λ _. ⌜ now (to .exit) ≡ cleanRow (now (sheet .entry)) (now (codes .entry)) ⌝ }
+fn clean_row(settings: Settings, codes: &[u16], to: &mut [u16])
+    requires { ⌜ LegalSettings settings ⌝ }
+    requires { ⌜ (length (now codes) ≡ 256 * channels settings) × (length (now to) ≡ 256 * channels settings) ⌝ }
+    ensures { λ _. ⌜ now (to .exit) ≡ cleanRow settings (now (codes .entry)) ⌝ }
 {
-    for c in 0..track.channels {
-        let end = track.ends[c];
+    let n = sheet::channels(settings);
+    for c in 0..n {
+        let end = sheet::end_at(settings, c);
         let a = 256 * c;
         let e = a + 256;
         clean_part(&codes[a..e], end, &mut to[a..e]);
@@ -38,21 +33,16 @@ fn clean_row(
 }
 
 // Those of all six blocks.
-pub fn clean_codes(
-    sheet: &[u8],
-    track: Track,
-    strategies: [[BlockSet; 6]; 6],
-    codes: &[u16],
-    to: &mut [u16],
-)
-    requires { ⌜ Under (now sheet) track strategies ⌝ }
-    requires { ⌜ (length (now codes) ≡ 256 * track .channels * 6) × (length (now to) ≡ 256 * track .channels * 6) ⌝ }
-    ensures { λ _. ⌜ now (to .exit) ≡ cleaned (now (sheet .entry)) (now (codes .entry)) ⌝ }
+pub fn clean_codes(settings: Settings, codes: &[u16], to: &mut [u16])
+    requires { ⌜ LegalSettings settings ⌝ }
+    requires { ⌜ (length (now codes) ≡ 256 * channels settings * 6) × (length (now to) ≡ 256 * channels settings * 6) ⌝ }
+    ensures { λ _. ⌜ now (to .exit) ≡ cleaned settings (now (codes .entry)) ⌝ }
 {
-    let n = 256 * track.channels;
+    let n = sheet::channels(settings);
+    let z = 256 * n;
     for b in 0..6 {
-        let a = n * b;
-        let e = a + n;
-        clean_row(sheet, track, strategies, &codes[a..e], &mut to[a..e]);
+        let a = z * b;
+        let e = a + z;
+        clean_row(settings, &codes[a..e], &mut to[a..e]);
     }
 }

@@ -5,9 +5,12 @@ ghost use lib.ListN.{length};
 ghost use Rattle.frame.specs.Legal.{alike, expsLegal, partLegal, rowLegal};
 ghost use Rattle.frame.specs.Under.{Under, KnownSet};
 ghost use Rattle.frame_rows.specs.Tests.{rowsCoded};
-use frame::Track;
+ghost use Rattle.sheet.specs.LegalSettings.{LegalSettings};
+ghost use Rattle.sheet.specs.Settings.{channels};
 use sheet::BlockSet;
 use sheet::ExponentSet;
+use sheet::MOST_CHANNELS;
+use sheet::Settings;
 use sheet::read::wide;
 
 // Whether two slices hold the same.
@@ -38,21 +41,21 @@ fn part_legal(set: ExponentSet, end: usize, old: &[u8], part: &[u8]) -> bool
 
 // The exponents of block b, after those of the block before.
 fn row_legal(
-    sheet: &[u8],
-    track: Track,
-    strategies: [[BlockSet; 6]; 6],
+    settings: Settings,
+    strategies: [[BlockSet; 6]; MOST_CHANNELS],
     b: usize,
     old: &[u8],
     row: &[u8],
 ) -> bool
-    requires { ⌜ Under (now sheet) track strategies ⌝ }
-    requires { ⌜ (b < 6) × (length (now old) ≡ 256 * track .channels) × (length (now row) ≡ 256 * track .channels) ⌝ }
-    ensures { λ r. ⌜ r ≡ rowLegal (now (sheet .entry)) b (now (old .entry)) (now (row .entry)) ⌝ }
+    requires { ⌜ Under settings strategies ⌝ }
+    requires { ⌜ (b < 6) × (length (now old) ≡ 256 * channels settings) × (length (now row) ≡ 256 * channels settings) ⌝ }
+    ensures { λ r. ⌜ r ≡ rowLegal settings b (now (old .entry)) (now (row .entry)) ⌝ }
 {
     let mut all = true;
-    for c in 0..track.channels {
-        let set = frame::set_at(strategies, b, c);
-        let end = track.ends[c];
+    let n = sheet::channels(settings);
+    for c in 0..n {
+        let set = sheet::set_at(strategies, b, c);
+        let end = sheet::end_at(settings, c);
         let a = 256 * c;
         let e = a + 256;
         all = all & part_legal(set, end, &old[a..e], &row[a..e]);
@@ -68,40 +71,40 @@ fn block_before(b: usize) -> usize
 }
 
 // Cause 4: the exponents of all six blocks.
-pub fn exps_legal(sheet: &[u8], track: Track, strategies: [[BlockSet; 6]; 6], exps: &[u8]) -> bool
-    requires { ⌜ Under (now sheet) track strategies ⌝ }
-    requires { ⌜ length (now exps) ≡ 256 * track .channels * 6 ⌝ }
-    ensures { λ r. ⌜ r ≡ expsLegal (now (sheet .entry)) (now (exps .entry)) ⌝ }
+pub fn exps_legal(
+    settings: Settings,
+    strategies: [[BlockSet; 6]; MOST_CHANNELS],
+    exps: &[u8],
+) -> bool
+    requires { ⌜ Under settings strategies ⌝ }
+    requires { ⌜ length (now exps) ≡ 256 * channels settings * 6 ⌝ }
+    ensures { λ r. ⌜ r ≡ expsLegal settings (now (exps .entry)) ⌝ }
 {
-    let n = 256 * track.channels;
+    let n = sheet::channels(settings);
+    let z = 256 * n;
     let mut all = true;
     for b in 0..6 {
-        let p = n * block_before(b);
-        let q = p + n;
-        let a = n * b;
-        let e = a + n;
-        all = all & row_legal(sheet, track, strategies, b, &exps[p..q], &exps[a..e]);
+        let p = z * block_before(b);
+        let q = p + z;
+        let a = z * b;
+        let e = a + z;
+        all = all & row_legal(settings, strategies, b, &exps[p..q], &exps[a..e]);
     }
     all
 }
 
 // Cause 5: the codes of all six blocks under their bap; from each end on they are 0.
-pub fn codes_legal(
-    sheet: &[u8],
-    track: Track,
-    strategies: [[BlockSet; 6]; 6],
-    bap: &[u8],
-    codes: &[u16],
-) -> bool
-    requires { ⌜ Under (now sheet) track strategies ⌝ }
-    requires { ⌜ (length (now bap) ≡ 256 * track .channels * 6) × (length (now codes) ≡ 256 * track .channels * 6) ⌝ }
-    ensures { λ r. ⌜ r ≡ rowsCoded (now (sheet .entry)) (now (bap .entry)) (now (codes .entry)) ⌝ }
+pub fn codes_legal(settings: Settings, bap: &[u8], codes: &[u16]) -> bool
+    requires { ⌜ LegalSettings settings ⌝ }
+    requires { ⌜ (length (now bap) ≡ 256 * channels settings * 6) × (length (now codes) ≡ 256 * channels settings * 6) ⌝ }
+    ensures { λ r. ⌜ r ≡ rowsCoded settings (now (bap .entry)) (now (codes .entry)) ⌝ }
 {
-    let n = 256 * track.channels;
+    let n = sheet::channels(settings);
+    let z = 256 * n;
     let mut all = true;
     for b in 0..6 {
-        let a = n * b;
-        let e = a + n;
+        let a = z * b;
+        let e = a + z;
         all = all & mantissas::code::check_codes(&bap[a..e], &codes[a..e]);
     }
     all

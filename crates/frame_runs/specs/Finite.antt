@@ -5,8 +5,9 @@ use mathlib.Core.Bool.{Bool, true, _&&_}
 use mathlib.Core.List.{List, [], _∷_}
 use lib.Ieee.{Float}
 use lib.Ieee.Scale.{finite}
-use Rattle.frame.specs.Layout.{channels}
 use Rattle.sheet.specs.Ranges.{allBelow}
+use Rattle.sheet.specs.Settings.{channels}
+use Rattle.sheet.specs.declared.settings.Settings.{Settings}
 use Rattle.frame_runs.specs.Runs.{belowEnd}
 
 -- each of these is finite
@@ -15,9 +16,9 @@ finitePart [] = true
 finitePart (x ∷ xs) = finite x && finitePart xs
 
 -- each one of block b below its channel's end
-unfoldable pub finiteRow : List ℕ → List Float → ℕ → Bool
-finiteRow sheet coeffs b = allBelow (channels sheet) (λ c. finitePart (belowEnd sheet b c coeffs))
+unfoldable pub finiteRow : Settings → List Float → ℕ → Bool
+finiteRow settings coeffs b = allBelow (channels settings) (λ c. finitePart (belowEnd settings b c coeffs))
 
 -- each one of the six blocks; else cause 3
-unfoldable pub allFinite : List ℕ → List Float → Bool
-allFinite sheet coeffs = allBelow 6 (finiteRow sheet coeffs)
+unfoldable pub allFinite : Settings → List Float → Bool
+allFinite settings coeffs = allBelow 6 (finiteRow settings coeffs)

@@ -8,9 +8,10 @@ use lib.Dec.{T}
 use lib.Ieee.{Float, nan}
 use lib.Ieee.Scale.{finite}
 use lib.ListN.{length, getD}
-use Rattle.frame.specs.Layout.{channels}
 use Rattle.bits.specs.Tests.{both}
 use Rattle.sheet.specs.Tests.{all-below}
+use Rattle.sheet.specs.Settings.{channels}
+use Rattle.sheet.specs.declared.settings.Settings.{Settings}
 use Rattle.frame_runs.specs.Finite.{finitePart, finiteRow, allFinite}
 use Rattle.frame_runs.specs.Runs.{belowEnd}
 
@@ -22,7 +23,7 @@ finite-at (x ∷ xs) zero t h = rw (both (finite x) (finitePart xs) t .0) tt
 finite-at (x ∷ xs) (suc i) t h = finite-at xs i (both (finite x) (finitePart xs) t .1) (omega arith)
 
 -- the part of a channel's block
-pub finite-below : (sheet : List ℕ) (coeffs : List Float) (b c : ℕ) → allFinite sheet coeffs ≡ true → b < 6 → c < channels sheet
-    → finitePart (belowEnd sheet b c coeffs) ≡ true
+pub finite-below : (settings : Settings) (coeffs : List Float) (b c : ℕ) → allFinite settings coeffs ≡ true → b < 6 → c < channels settings
+    → finitePart (belowEnd settings b c coeffs) ≡ true
 unfolding allFinite finiteRow
-finite-below sheet coeffs b c t hb hc = all-below (channels sheet) _ (all-below 6 (finiteRow sheet coeffs) t b hb) c hc
+finite-below settings coeffs b c t hb hc = all-below (channels settings) _ (all-below 6 (finiteRow settings coeffs) t b hb) c hc

@@ -5,13 +5,14 @@ use mathlib.Core.Path.{_≡_, refl, sym, ap, _∙_}
 use native.Mathlib.Omega.{arith}
 use lib.Ieee.{Float}
 use lib.ListN.{length, length-append, length-replicate}
-use Rattle.bits.specs.Refusal as refusal
-use Rattle.frame.specs.Layout.{channels, endAt, setAt, bySet}
+use Rattle.frame.specs.Layout.{bySet}
 use Rattle.frame.specs.Under.{channel-known}
 use Rattle.shaping.specs.ShapedLaws.{length-preprocessed, length-quantised}
-use Rattle.sheet.specs.Sheet.{checkOf}
 use Rattle.sheet.specs.declared.record.ExponentSet.{ExponentSet}
 use Rattle.sheet.specs.declared.record.ExponentSet.the-variants.{Reuse, New}
+use Rattle.sheet.specs.Settings.{channels, endAt, setAt}
+use Rattle.sheet.specs.LegalSettings.{LegalSettings}
+use Rattle.sheet.specs.declared.settings.Settings.{Settings}
 use Rattle.frame_runs.specs.Runs.{belowEnd, exponentsOf, leastOf, leastFrom, runLeast, runExponents, runPart, partAt}
 use Rattle.frame_runs.specs.RunsLaws.{whole-below}
 
@@ -32,38 +33,38 @@ length-leastOf [] ys e = refl
 length-leastOf (x ∷ xs) [] e = absurd (omega arith)
 length-leastOf (x ∷ xs) (y ∷ ys) e = ap suc (length-leastOf xs ys (omega arith))
 
-module _ (sheet : List ℕ) (coeffs : List Float) (accepted : checkOf sheet ≡ refusal.accepted) (whole : length coeffs ≡ 256 * channels sheet * 6) (c : ℕ) (h : c < channels sheet) where
-  length-extracted : (b : ℕ) → b < 6 → length (exponentsOf (belowEnd sheet b c coeffs)) ≡ endAt sheet c
-  length-extracted b hb = length-exponentsOf (belowEnd sheet b c coeffs) ∙ whole-below sheet b c coeffs accepted hb h whole
+module _ (settings : Settings) (coeffs : List Float) (under : LegalSettings settings) (whole : length coeffs ≡ 256 * channels settings * 6) (c : ℕ) (h : c < channels settings) where
+  length-extracted : (b : ℕ) → b < 6 → length (exponentsOf (belowEnd settings b c coeffs)) ≡ endAt settings c
+  length-extracted b hb = length-exponentsOf (belowEnd settings b c coeffs) ∙ whole-below settings b c coeffs under hb h whole
 
-  length-leastFrom : (left b : ℕ) (least : List ℕ) → left + b ≤ 6 → length least ≡ endAt sheet c → length (leastFrom sheet coeffs c left b least) ≡ endAt sheet c
+  length-leastFrom : (left b : ℕ) (least : List ℕ) → left + b ≤ 6 → length least ≡ endAt settings c → length (leastFrom settings coeffs c left b least) ≡ endAt settings c
   unfolding leastFrom
   length-leastFrom zero b least k e = e
   length-leastFrom (suc left) b least k e =
-      let block = exponentsOf (belowEnd sheet b c coeffs) in
+      let block = exponentsOf (belowEnd settings b c coeffs) in
       let one = length-extracted b (omega arith) in
-      length-by-set (setAt sheet b c) _ (λ span. least) (endAt sheet c)
+      length-by-set (setAt settings b c) _ (λ span. least) (endAt settings c)
       (length-leastFrom left (suc b) (leastOf least block) (omega arith) (length-leastOf least block (e ∙ sym one) ∙ e)) (λ span. e)
 
-  pub length-runLeast : (b : ℕ) → b < 6 → length (runLeast sheet coeffs b c) ≡ endAt sheet c
+  pub length-runLeast : (b : ℕ) → b < 6 → length (runLeast settings coeffs b c) ≡ endAt settings c
   unfolding runLeast
   length-runLeast b hb = length-leastFrom (5 - b) (suc b) _ (omega arith) (length-extracted b hb)
 
-  pub length-runExponents : (b : ℕ) → b < 6 → (span : ℕ) → length (runExponents sheet coeffs b c span) ≡ endAt sheet c
+  pub length-runExponents : (b : ℕ) → b < 6 → (span : ℕ) → length (runExponents settings coeffs b c span) ≡ endAt settings c
   unfolding runExponents
   length-runExponents b hb span = length-quantised _ _ ∙ length-preprocessed _ ∙ length-runLeast b hb
 
-  length-runPart : (b : ℕ) → b < 6 → (span : ℕ) → length (runPart sheet coeffs b c span) ≡ 256
+  length-runPart : (b : ℕ) → b < 6 → (span : ℕ) → length (runPart settings coeffs b c span) ≡ 256
   unfolding runPart
   length-runPart b hb span =
-      rw (length-append, length-runExponents b hb span, length-replicate {A = ℕ} (256 - endAt sheet c) 0)
-      (omega (arith, channel-known sheet accepted c h .end-most))
+      rw (length-append, length-runExponents b hb span, length-replicate {A = ℕ} (256 - endAt settings c) 0)
+      (omega (arith, channel-known settings under c h .end-most))
 
-  length-part : (b : ℕ) → b < 6 → length (partAt sheet coeffs b c) ≡ 256
+  length-part : (b : ℕ) → b < 6 → length (partAt settings coeffs b c) ≡ 256
   unfolding partAt
-  length-part zero hb = length-by-set (setAt sheet 0 c) _ _ 256 (length-replicate {A = ℕ} 256 0) (length-runPart 0 hb)
-  length-part (suc b) hb = length-by-set (setAt sheet (suc b) c) _ _ 256 (length-part b (omega arith)) (length-runPart (suc b) hb)
+  length-part zero hb = length-by-set (setAt settings 0 c) _ _ 256 (length-replicate {A = ℕ} 256 0) (length-runPart 0 hb)
+  length-part (suc b) hb = length-by-set (setAt settings (suc b) c) _ _ 256 (length-part b (omega arith)) (length-runPart (suc b) hb)
 
-pub length-partAt : (sheet : List ℕ) (coeffs : List Float) → checkOf sheet ≡ refusal.accepted → length coeffs ≡ 256 * channels sheet * 6
-    → (b c : ℕ) → b < 6 → c < channels sheet → length (partAt sheet coeffs b c) ≡ 256
-length-partAt sheet coeffs accepted whole b c hb hc = length-part sheet coeffs accepted whole c hc b hb
+pub length-partAt : (settings : Settings) (coeffs : List Float) → LegalSettings settings → length coeffs ≡ 256 * channels settings * 6
+    → (b c : ℕ) → b < 6 → c < channels settings → length (partAt settings coeffs b c) ≡ 256
+length-partAt settings coeffs under whole b c hb hc = length-part settings coeffs under whole c hc b hb

@@ -5,14 +5,16 @@ use mathlib.Core.List.{List, [], _∷_, _++_}
 use lib.Ieee.{Float}
 use lib.ListN.{take, drop, replicate}
 use Rattle.bits.specs.Parts.{joined}
-use Rattle.frame.specs.Layout.{channels, endAt, setAt, bySet}
+use Rattle.frame.specs.Layout.{bySet}
 use Rattle.shaping.specs.Extract.{exponentOf}
 use Rattle.shaping.specs.Passes.{preprocessed, quantised}
 use Rattle.sheet.specs.Layout.{partStart}
+use Rattle.sheet.specs.Settings.{channels, endAt, setAt}
+use Rattle.sheet.specs.declared.settings.Settings.{Settings}
 
 -- a channel's entries of block b, "the bins below end"; they start where its part of the buffer does
-unfoldable pub belowEnd : {A : Type 0} → List ℕ → ℕ → ℕ → List A → List A
-belowEnd sheet b c l = take (endAt sheet c) (drop (partStart (channels sheet) b c) l)
+unfoldable pub belowEnd : {A : Type 0} → Settings → ℕ → ℕ → List A → List A
+belowEnd settings b c l = take (endAt settings c) (drop (partStart (channels settings) b c) l)
 
 -- "the extracted ones": `extract_exponent` of each coefficient
 unfoldable pub exponentsOf : List Float → List ℕ
@@ -27,32 +29,32 @@ leastOf (x ∷ xs) (y ∷ ys) = min x y ∷ leastOf xs ys
 
 -- the pointwise least of `least` and the exponents of "the reuse blocks after it": those from block b on, up to the next new block, of
 -- the `left` blocks that are left
-unfoldable pub leastFrom : List ℕ → List Float → ℕ → ℕ → ℕ → List ℕ → List ℕ
-leastFrom sheet coeffs c zero b least = least
-leastFrom sheet coeffs c (suc left) b least =
-    bySet (setAt sheet b c) (leastFrom sheet coeffs c left (suc b) (leastOf least (exponentsOf (belowEnd sheet b c coeffs)))) (λ span. least)
+unfoldable pub leastFrom : Settings → List Float → ℕ → ℕ → ℕ → List ℕ → List ℕ
+leastFrom settings coeffs c zero b least = least
+leastFrom settings coeffs c (suc left) b least =
+    bySet (setAt settings b c) (leastFrom settings coeffs c left (suc b) (leastOf least (exponentsOf (belowEnd settings b c coeffs)))) (λ span. least)
 
 -- the pointwise least of all blocks of a channel's run that begins with block b, a new one
-unfoldable pub runLeast : List ℕ → List Float → ℕ → ℕ → List ℕ
-runLeast sheet coeffs b c = leastFrom sheet coeffs c (5 - b) (suc b) (exponentsOf (belowEnd sheet b c coeffs))
+unfoldable pub runLeast : Settings → List Float → ℕ → ℕ → List ℕ
+runLeast settings coeffs b c = leastFrom settings coeffs c (5 - b) (suc b) (exponentsOf (belowEnd settings b c coeffs))
 
 -- "`preprocess_d15`, then the strategy's span": what the two calls leave (shaping/specs/Passes.antt)
-unfoldable pub runExponents : List ℕ → List Float → ℕ → ℕ → ℕ → List ℕ
-runExponents sheet coeffs b c span = quantised span (preprocessed (runLeast sheet coeffs b c))
+unfoldable pub runExponents : Settings → List Float → ℕ → ℕ → ℕ → List ℕ
+runExponents settings coeffs b c span = quantised span (preprocessed (runLeast settings coeffs b c))
 
 -- a channel's part of block b with a new set of this span: "entries from end on are .. written as 0"
-unfoldable pub runPart : List ℕ → List Float → ℕ → ℕ → ℕ → List ℕ
-runPart sheet coeffs b c span = runExponents sheet coeffs b c span ++ replicate (256 - endAt sheet c) 0
+unfoldable pub runPart : Settings → List Float → ℕ → ℕ → ℕ → List ℕ
+runPart settings coeffs b c span = runExponents settings coeffs b c span ++ replicate (256 - endAt settings c) 0
 
 -- a channel's part of block b: "reuse blocks repeat the earlier exponents"; "block 0 is never reuse", else it would repeat zeros
-unfoldable pub partAt : List ℕ → List Float → ℕ → ℕ → List ℕ
-partAt sheet coeffs zero c = bySet (setAt sheet 0 c) (replicate 256 0) (runPart sheet coeffs 0 c)
-partAt sheet coeffs (suc b) c = bySet (setAt sheet (suc b) c) (partAt sheet coeffs b c) (runPart sheet coeffs (suc b) c)
+unfoldable pub partAt : Settings → List Float → ℕ → ℕ → List ℕ
+partAt settings coeffs zero c = bySet (setAt settings 0 c) (replicate 256 0) (runPart settings coeffs 0 c)
+partAt settings coeffs (suc b) c = bySet (setAt settings (suc b) c) (partAt settings coeffs b c) (runPart settings coeffs (suc b) c)
 
 -- a buffer of 6 × C × 256 entries: six blocks, each of C parts
-unfoldable pub framed : List ℕ → (ℕ → ℕ → List ℕ) → List ℕ
-framed sheet part = joined 6 (λ b. joined (channels sheet) (part b))
+unfoldable pub framed : Settings → (ℕ → ℕ → List ℕ) → List ℕ
+framed settings part = joined 6 (λ b. joined (channels settings) (part b))
 
 -- the exponents of all six blocks
-unfoldable pub expsOf : List ℕ → List Float → List ℕ
-expsOf sheet coeffs = framed sheet (partAt sheet coeffs)
+unfoldable pub expsOf : Settings → List Float → List ℕ
+expsOf settings coeffs = framed settings (partAt settings coeffs)

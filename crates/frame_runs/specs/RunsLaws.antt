@@ -7,75 +7,72 @@ use native.Mathlib.Omega.{arith}
 use lib.Ieee.{Float}
 use lib.ListN.{length, take, drop, getD, length-take, length-drop}
 use lib.Seq.{getD-take, getD-drop}
-use Rattle.bits.specs.Refusal as refusal
-use Rattle.frame.specs.Layout.{channels, endAt, setAt}
-use Rattle.frame.specs.Under.{Under, channel-known, held-channels, held-end, by-reuse, by-new}
-use Rattle.frame.specs.declared.track.Track.{Track}
+use Rattle.frame.specs.Under.{channel-known, by-reuse, by-new}
 use Rattle.sheet.specs.Laws.{part-within}
 use Rattle.sheet.specs.Layout.{partStart}
 use Rattle.sheet.specs.Inner.{PartStart}
-use Rattle.sheet.specs.Sheet.{checkOf}
-use Rattle.sheet.specs.declared.record.BlockSet.{BlockSet}
 use Rattle.sheet.specs.declared.record.ExponentSet.the-variants.{Reuse, New}
+use Rattle.sheet.specs.Settings.{channels, endAt, setAt}
+use Rattle.sheet.specs.LegalSettings.{ChannelCount, ChannelEnd, LegalSettings}
+use Rattle.sheet.specs.declared.settings.Settings.{Settings}
 use Rattle.frame_runs.specs.Runs.{belowEnd, exponentsOf, leastOf, leastFrom, runLeast}
 
 -- ---- the entries of a channel's block below its end
 
-pub length-below : {A : Type 0} (sheet : List ℕ) (b c : ℕ) (l : List A) → partStart (channels sheet) b c + endAt sheet c ≤ length l
-    → length (belowEnd sheet b c l) ≡ endAt sheet c
+pub length-below : {A : Type 0} (settings : Settings) (b c : ℕ) (l : List A) → partStart (channels settings) b c + endAt settings c ≤ length l
+    → length (belowEnd settings b c l) ≡ endAt settings c
 unfolding belowEnd
-length-below sheet b c l h = rw (length-take, length-drop) (omega arith)
+length-below settings b c l h = rw (length-take, length-drop) (omega arith)
 
 -- and where each of them stands in the buffer
-pub at-below-end : {A : Type 0} (sheet : List ℕ) (b c i : ℕ) (l : List A) (z : A) → i < endAt sheet c
-    → getD (belowEnd sheet b c l) i z ≡ getD l (partStart (channels sheet) b c + i) z
+pub at-below-end : {A : Type 0} (settings : Settings) (b c i : ℕ) (l : List A) (z : A) → i < endAt settings c
+    → getD (belowEnd settings b c l) i z ≡ getD l (partStart (channels settings) b c + i) z
 unfolding belowEnd
-at-below-end sheet b c i l z h =
-    getD-take (endAt sheet c) (drop (partStart (channels sheet) b c) l) i z h ∙ getD-drop (partStart (channels sheet) b c) l i z
+at-below-end settings b c i l z h =
+    getD-take (endAt settings c) (drop (partStart (channels settings) b c) l) i z h ∙ getD-drop (partStart (channels settings) b c) l i z
 
-module _ {sheet : List ℕ} {track : Track} {strategies : List (List BlockSet)} (u : Under sheet track strategies) where
-  module _ (b c a : ℕ) (p : PartStart (track .channels) b c a) (h : c < channels sheet) where
-    -- they lie within a buffer
-    pub below-fits : (n : ℕ) → n ≡ 256 * channels sheet * 6 → a + getD (track .ends) c 0 ≤ n
-    below-fits n e = omega (arith, p .within, held-channels u, held-end u c, channel-known sheet (u .accepted) c h .end-most)
+module _ {settings : Settings} {n : ℕ} (many : ChannelCount settings n) (b c a : ℕ) (p : PartStart n b c a) {end : ℕ} (ends : ChannelEnd settings c end) where
+  -- they lie within a buffer
+  pub below-fits : (k : ℕ) → k ≡ 256 * channels settings * 6 → a + end ≤ k
+  below-fits k e = omega (arith, p .within, many .is, ends .most)
 
-    -- they are what is lent
-    pub below-lent : {A : Type 0} (l : List A) → take (a + getD (track .ends) c 0 - a) (drop a l) ≡ belowEnd sheet b c l
-    unfolding belowEnd
-    below-lent l =
-        let n : a + getD (track .ends) c 0 - a ≡ endAt sheet c = omega (arith, held-end u c) in
-        let s : a ≡ partStart (channels sheet) b c = p .is ∙ ap (λ (k : ℕ). partStart k b c) (held-channels u) in
-        rw (n, s)
+  -- they are what is lent
+  pub below-lent : {A : Type 0} (l : List A) → take (a + end - a) (drop a l) ≡ belowEnd settings b c l
+  unfolding belowEnd
+  below-lent l =
+      let k : a + end - a ≡ endAt settings c = omega (arith, ends .is) in
+      let s : a ≡ partStart (channels settings) b c = p .is ∙ ap (λ (m : ℕ). partStart m b c) (many .is) in
+      rw (k, s)
 
 -- a whole buffer holds them
-pub whole-below : {A : Type 0} (sheet : List ℕ) (b c : ℕ) (l : List A) → checkOf sheet ≡ refusal.accepted → b < 6 → c < channels sheet
-    → length l ≡ 256 * channels sheet * 6 → length (belowEnd sheet b c l) ≡ endAt sheet c
-whole-below sheet b c l accepted hb hc e =
-    length-below sheet b c l (omega (arith, part-within (channels sheet) b c hb hc, channel-known sheet accepted c hc .end-most))
+pub whole-below : {A : Type 0} (settings : Settings) (b c : ℕ) (l : List A) → LegalSettings settings → b < 6 → c < channels settings
+    → length l ≡ 256 * channels settings * 6 → length (belowEnd settings b c l) ≡ endAt settings c
+whole-below settings b c l under hb hc e =
+    length-below settings b c l (omega (arith, part-within (channels settings) b c hb hc, channel-known settings under c hc .end-most))
 
 -- ---- the blocks of a run
 
-module _ (sheet : List ℕ) (coeffs : List Float) (c b : ℕ) (least : List ℕ) where
+module _ (settings : Settings) (coeffs : List Float) (c b : ℕ) (least : List ℕ) where
   -- a reuse block is one of the run
-  pub run-on : setAt sheet b c ≡ Reuse → b < 6 → leastFrom sheet coeffs c (6 - b) b least
-      ≡ leastFrom sheet coeffs c (6 - (b + 1)) (b + 1) (leastOf least (exponentsOf (belowEnd sheet b c coeffs)))
+  pub run-on : setAt settings b c ≡ Reuse → b < 6 → leastFrom settings coeffs c (6 - b) b least
+      ≡ leastFrom settings coeffs c (6 - (b + 1)) (b + 1) (leastOf least (exponentsOf (belowEnd settings b c coeffs)))
   unfolding leastFrom
   run-on h l = let e : 6 - b ≡ suc (6 - (b + 1)) = omega arith in rw (e, by-reuse _ _ h, add-one)
 
   -- a new block ends it
-  pub run-stops : (span : ℕ) → setAt sheet b c ≡ New span → b < 6 → least ≡ leastFrom sheet coeffs c (6 - b) b least
+  pub run-stops : (span : ℕ) → setAt settings b c ≡ New span → b < 6 → least ≡ leastFrom settings coeffs c (6 - b) b least
   unfolding leastFrom
   run-stops span h l = let e : 6 - b ≡ suc (5 - b) = omega arith in rw (e, by-new _ _ span h)
 
   -- and so does the frame's end
-  pub run-ends : 6 ≤ b → least ≡ leastFrom sheet coeffs c (6 - b) b least
+  pub run-ends : 6 ≤ b → least ≡ leastFrom settings coeffs c (6 - b) b least
   unfolding leastFrom
   run-ends h = let e : 6 - b ≡ 0 = omega arith in rw e
 
 -- the first block of a run, then the reuse blocks
-pub run-begins : (sheet : List ℕ) (coeffs : List Float) (c b : ℕ) (first least : List ℕ) → first ≡ exponentsOf (belowEnd sheet b c coeffs)
-    → least ≡ leastFrom sheet coeffs c (6 - (b + 1)) (b + 1) first → least ≡ runLeast sheet coeffs b c
+pub run-begins : (settings : Settings) (coeffs : List Float) (c b : ℕ) (first least : List ℕ) → first ≡ exponentsOf (belowEnd settings b c coeffs)
+    → least ≡ leastFrom settings coeffs c (6 - (b + 1)) (b + 1) first → least ≡ runLeast settings coeffs b c
 unfolding runLeast
-run-begins sheet coeffs c b first least e q =
+run-begins settings coeffs c b first least e q =
     let k : 6 - (b + 1) ≡ 5 - b = omega arith in
     rw (← e, ← add-one b, ← k) q

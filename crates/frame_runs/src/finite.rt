@@ -2,11 +2,10 @@
 ghost use mathlib.Core.Path.{_≡_};
 ghost use Prim.Native.Nat.{_*_, _<_};
 ghost use lib.ListN.{length};
-ghost use Rattle.frame.specs.Under.{Under};
-ghost use Rattle.frame.specs.Layout.{channels};
+ghost use Rattle.sheet.specs.LegalSettings.{LegalSettings};
+ghost use Rattle.sheet.specs.Settings.{channels};
 ghost use Rattle.frame_runs.specs.Finite.{finitePart, finiteRow, allFinite};
-use frame::Track;
-use sheet::BlockSet;
+use sheet::Settings;
 
 fn part_finite(part: &[f32]) -> bool
     ensures { λ r. ⌜ r ≡ finitePart (now (part .entry)) ⌝ }
@@ -21,39 +20,29 @@ fn part_finite(part: &[f32]) -> bool
     true
 }
 
-fn row_finite(
-    sheet: &[u8],
-    track: Track,
-    strategies: [[BlockSet; 6]; 6],
-    coeffs: &[f32],
-    b: usize,
-) -> bool
-    requires { ⌜ Under (now sheet) track strategies ⌝ }
-    requires { ⌜ (b < 6) × (length (now coeffs) ≡ 256 * channels (now sheet) * 6) ⌝ }
-    ensures { λ r. ⌜ r ≡ finiteRow (now (sheet .entry)) (now (coeffs .entry)) b ⌝ }
+fn row_finite(settings: Settings, coeffs: &[f32], b: usize) -> bool
+    requires { ⌜ LegalSettings settings ⌝ }
+    requires { ⌜ (b < 6) × (length (now coeffs) ≡ 256 * channels settings * 6) ⌝ }
+    ensures { λ r. ⌜ r ≡ finiteRow settings (now (coeffs .entry)) b ⌝ }
 {
     let mut all = true;
-    for c in 0..track.channels {
-        let a = sheet::part_start(track.channels, b, c);
-        let e = a + track.ends[c];
+    let n = sheet::channels(settings);
+    for c in 0..n {
+        let a = sheet::part_start(n, b, c);
+        let e = a + sheet::end_at(settings, c);
         all = all & part_finite(&coeffs[a..e]);
     }
     all
 }
 
-pub fn all_finite(
-    sheet: &[u8],
-    track: Track,
-    strategies: [[BlockSet; 6]; 6],
-    coeffs: &[f32],
-) -> bool
-    requires { ⌜ Under (now sheet) track strategies ⌝ }
-    requires { ⌜ length (now coeffs) ≡ 256 * channels (now sheet) * 6 ⌝ }
-    ensures { λ r. ⌜ r ≡ allFinite (now (sheet .entry)) (now (coeffs .entry)) ⌝ }
+pub fn all_finite(settings: Settings, coeffs: &[f32]) -> bool
+    requires { ⌜ LegalSettings settings ⌝ }
+    requires { ⌜ length (now coeffs) ≡ 256 * channels settings * 6 ⌝ }
+    ensures { λ r. ⌜ r ≡ allFinite settings (now (coeffs .entry)) ⌝ }
 {
     let mut all = true;
     for b in 0..6 {
-        all = all & row_finite(sheet, track, strategies, coeffs, b);
+        all = all & row_finite(settings, coeffs, b);
     }
     all
 }

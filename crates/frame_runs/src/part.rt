@@ -3,15 +3,16 @@ ghost use mathlib.Core.Path.{_≡_};
 ghost use mathlib.Core.Bool.{true};
 ghost use Prim.Native.Nat.{_-_, _<_, _≤_, min};
 ghost use lib.ListN.{length};
-ghost use Rattle.frame.specs.Layout.{channels, endAt};
+ghost use Rattle.sheet.specs.Settings.{channels, endAt};
 ghost use Rattle.frame.specs.Under.{Under};
 ghost use Rattle.frame_runs.specs.Finite.{finitePart};
 ghost use Rattle.frame_runs.specs.Inner.{Encodable};
 ghost use Rattle.frame_runs.specs.Runs.{exponentsOf, leastOf, leastFrom, runLeast, runExponents, runPart};
 ghost use Rattle.frame_runs.specs.Carried.{nextPart};
-use frame::Track;
 use sheet::BlockSet;
 use sheet::ExponentSet;
+use sheet::MOST_CHANNELS;
+use sheet::Settings;
 use sheet::read::wide;
 
 fn least(a: u8, b: u8) -> u8
@@ -48,27 +49,27 @@ fn lower_part(coeffs: &[f32], part: &mut [u8])
 
 // The least of those so far and those of the reuse blocks from `first` on.
 fn lower_by_reuse(
-    sheet: &[u8],
-    track: Track,
-    strategies: [[BlockSet; 6]; 6],
+    settings: Settings,
+    strategies: [[BlockSet; 6]; MOST_CHANNELS],
     coeffs: &[f32],
     c: usize,
     first: usize,
     part: &mut [u8],
 )
-    requires { ⌜ Under (now sheet) track strategies ⌝ }
-    requires { ⌜ Encodable (now sheet) (now coeffs) ⌝ }
-    requires { ⌜ (c < channels (now sheet)) × (first ≤ 6) × (length (now part) ≡ endAt (now sheet) c) ⌝ }
-    ensures { λ _. ⌜ now (part .exit) ≡ leastFrom (now (sheet .entry)) (now (coeffs .entry)) c (6 - first) first (now (part .entry)) ⌝ }
+    requires { ⌜ Under settings strategies ⌝ }
+    requires { ⌜ Encodable settings (now coeffs) ⌝ }
+    requires { ⌜ (c < channels settings) × (first ≤ 6) × (length (now part) ≡ endAt settings c) ⌝ }
+    ensures { λ _. ⌜ now (part .exit) ≡ leastFrom settings (now (coeffs .entry)) c (6 - first) first (now (part .entry)) ⌝ }
 {
+    let n = sheet::channels(settings);
     let mut b = first;
     while b < 6 {
-        let set = frame::set_at(strategies, b, c);
+        let set = sheet::set_at(strategies, b, c);
         if let ExponentSet::New(_) = set {
             return;
         }
-        let a = sheet::part_start(track.channels, b, c);
-        let e = a + track.ends[c];
+        let a = sheet::part_start(n, b, c);
+        let e = a + sheet::end_at(settings, c);
         lower_part(&coeffs[a..e], part);
         b += 1;
     }
@@ -76,96 +77,82 @@ fn lower_by_reuse(
 
 // The least exponents of the run that begins with block b.
 fn run_least(
-    sheet: &[u8],
-    track: Track,
-    strategies: [[BlockSet; 6]; 6],
+    settings: Settings,
+    strategies: [[BlockSet; 6]; MOST_CHANNELS],
     coeffs: &[f32],
     b: usize,
     c: usize,
     part: &mut [u8],
 )
-    requires { ⌜ Under (now sheet) track strategies ⌝ }
-    requires { ⌜ Encodable (now sheet) (now coeffs) ⌝ }
-    requires { ⌜ (b < 6) × (c < channels (now sheet)) × (length (now part) ≡ endAt (now sheet) c) ⌝ }
-    ensures { λ _. ⌜ now (part .exit) ≡ runLeast (now (sheet .entry)) (now (coeffs .entry)) b c ⌝ }
+    requires { ⌜ Under settings strategies ⌝ }
+    requires { ⌜ Encodable settings (now coeffs) ⌝ }
+    requires { ⌜ (b < 6) × (c < channels settings) × (length (now part) ≡ endAt settings c) ⌝ }
+    ensures { λ _. ⌜ now (part .exit) ≡ runLeast settings (now (coeffs .entry)) b c ⌝ }
 {
-    let a = sheet::part_start(track.channels, b, c);
-    let e = a + track.ends[c];
+    let n = sheet::channels(settings);
+    let a = sheet::part_start(n, b, c);
+    let e = a + sheet::end_at(settings, c);
     extract_part(&coeffs[a..e], part);
-    lower_by_reuse(sheet, track, strategies, coeffs, c, b + 1, part);
+    lower_by_reuse(settings, strategies, coeffs, c, b + 1, part);
 }
 
 // They are shaped: `preprocess_d15`, then the set's span.
 fn run_exponents(
-    sheet: &[u8],
-    track: Track,
-    strategies: [[BlockSet; 6]; 6],
+    settings: Settings,
+    strategies: [[BlockSet; 6]; MOST_CHANNELS],
     coeffs: &[f32],
     b: usize,
     c: usize,
     span: usize,
     part: &mut [u8],
 )
-    requires { ⌜ Under (now sheet) track strategies ⌝ }
-    requires { ⌜ Encodable (now sheet) (now coeffs) ⌝ }
-    requires { ⌜ (b < 6) × (c < channels (now sheet)) × (length (now part) ≡ endAt (now sheet) c) ⌝ }
-    ensures { λ _. ⌜ now (part .exit) ≡ runExponents (now (sheet .entry)) (now (coeffs .entry)) b c span ⌝ }
+    requires { ⌜ Under settings strategies ⌝ }
+    requires { ⌜ Encodable settings (now coeffs) ⌝ }
+    requires { ⌜ (b < 6) × (c < channels settings) × (length (now part) ≡ endAt settings c) ⌝ }
+    ensures { λ _. ⌜ now (part .exit) ≡ runExponents settings (now (coeffs .entry)) b c span ⌝ }
 {
-    run_least(sheet, track, strategies, coeffs, b, c, part);
+    run_least(settings, strategies, coeffs, b, c, part);
     shaping::preprocess_d15(part);
     shaping::quantise_exponents_to_grpsize(part, span);
 }
 
 // Block b begins a run, with a new set of this span.
 fn begin_run(
-    sheet: &[u8],
-    track: Track,
-    strategies: [[BlockSet; 6]; 6],
+    settings: Settings,
+    strategies: [[BlockSet; 6]; MOST_CHANNELS],
     coeffs: &[f32],
     b: usize,
     c: usize,
     span: usize,
     part: &mut [u8],
 )
-    requires { ⌜ Under (now sheet) track strategies ⌝ }
-    requires { ⌜ Encodable (now sheet) (now coeffs) ⌝ }
-    requires { ⌜ (b < 6) × (c < channels (now sheet)) × (length (now part) ≡ 256) ⌝ }
-    ensures { λ _. ⌜ now (part .exit) ≡ runPart (now (sheet .entry)) (now (coeffs .entry)) b c span ⌝ }
+    requires { ⌜ Under settings strategies ⌝ }
+    requires { ⌜ Encodable settings (now coeffs) ⌝ }
+    requires { ⌜ (b < 6) × (c < channels settings) × (length (now part) ≡ 256) ⌝ }
+    ensures { λ _. ⌜ now (part .exit) ≡ runPart settings (now (coeffs .entry)) b c span ⌝ }
 {
-    let end = track.ends[c];
-    run_exponents(
-        sheet,
-        track,
-        strategies,
-        coeffs,
-        b,
-        c,
-        span,
-        &mut part[0..end],
-    );
+    let end = sheet::end_at(settings, c);
+    run_exponents(settings, strategies, coeffs, b, c, span, &mut part[0..end]);
     slices::fill(&mut part[end..256], 0);
 }
 
 // A channel's part of block b, over that of the block before: a reuse block leaves it.
 pub(crate) fn next_part(
-    sheet: &[u8],
-    track: Track,
-    strategies: [[BlockSet; 6]; 6],
+    settings: Settings,
+    strategies: [[BlockSet; 6]; MOST_CHANNELS],
     coeffs: &[f32],
     b: usize,
     c: usize,
     part: &mut [u8],
 )
-    requires { ⌜ Under (now sheet) track strategies ⌝ }
-    requires { ⌜ Encodable (now sheet) (now coeffs) ⌝ }
-    requires { ⌜ (b < 6) × (c < channels (now sheet)) × (length (now part) ≡ 256) ⌝ }
-    ensures { λ _. ⌜ now (part .exit) ≡ nextPart (now (sheet .entry)) (now (coeffs .entry)) b c (now (part .entry)) ⌝ }
+    requires { ⌜ Under settings strategies ⌝ }
+    requires { ⌜ Encodable settings (now coeffs) ⌝ }
+    requires { ⌜ (b < 6) × (c < channels settings) × (length (now part) ≡ 256) ⌝ }
+    ensures { λ _. ⌜ now (part .exit) ≡ nextPart settings (now (coeffs .entry)) b c (now (part .entry)) ⌝ }
 {
-    let set = frame::set_at(strategies, b, c);
+    let set = sheet::set_at(strategies, b, c);
     match set {
         ExponentSet::Reuse => {}
-        ExponentSet::New(span) => {
-            begin_run(sheet, track, strategies, coeffs, b, c, wide(span), part)
-        }
+        ExponentSet::New(span) => begin_run(settings, strategies, coeffs, b, c, wide(span), part),
     }
 }

@@ -10,91 +10,80 @@ use borrow.Author.Tests.{lt-ltb, le-ltb, eq-eqb, ne-eqb}
 use Rattle.bits.specs.Bytes.{bytesFor}
 use Rattle.bits.specs.Refusal as refusal
 use Rattle.sheet.specs.Layout.{bufferLength}
+use Rattle.sheet.specs.LegalSettings.{LegalSettings}
+use Rattle.sheet.specs.Settings.{settingsOf, channels}
 use Rattle.sheet.specs.Sheet.{checkOf}
-use Rattle.sheet.specs.declared.record.BlockSet.{BlockSet}
-use Rattle.frame.specs.Answers.{gives, turnedBack, writeAnswer}
+use Rattle.sheet.specs.declared.settings.Settings.{Settings}
+use Rattle.frame.specs.Answers.{gives, refused, writeUnder, writeAnswer}
 use Rattle.frame.specs.Body.{bodyBits, countsOf, total}
-use Rattle.frame.specs.Layout.{channels}
 use Rattle.frame.specs.Legal.{expsLegal, codesLegal, LegalFrame}
 use Rattle.frame.specs.Theorems.{body-count}
-use Rattle.frame.specs.Under.{Under, held-channels}
-use Rattle.frame.specs.declared.track.Track.{Track}
 use Rattle.frame_rows.specs.CleanLaws.{cleaned-bits, cleaned-counts, cleaned-legal}
 use Rattle.frame_rows.specs.Rows.{cleaned}
 use Rattle.frame_rows.specs.RowsLaws.{length-cleaned}
 
--- the sheet is accepted, and the buffers are of its length
-pub record Sized (sheet exps codes : List ℕ) : Type 0 where
-  pub accepted : checkOf sheet ≡ refusal.accepted
-  pub exps-long : length exps ≡ 256 * channels sheet * 6
-  pub codes-long : length codes ≡ 256 * channels sheet * 6
+-- the settings are legal, and the buffers are of their length
+pub record Sized (settings : Settings) (exps codes : List ℕ) : Type 0 where
+  pub under : LegalSettings settings
+  pub exps-long : length exps ≡ 256 * channels settings * 6
+  pub codes-long : length codes ≡ 256 * channels settings * 6
 
--- by the number of channels that is held by value
-pub under-sized : {sheet : List ℕ} {track : Track} {strategies : List (List BlockSet)} → Under sheet track strategies → (exps codes : List ℕ)
-    → length exps ≡ 256 * track .channels * 6 → length codes ≡ 256 * track .channels * 6 → Sized sheet exps codes
-under-sized u exps codes e c = record { accepted = u .accepted; exps-long = rw (held-channels u) at e; codes-long = rw (held-channels u) at c }
+-- 1, 2 and 11
+pub write-sheet : (sheet exps codes : List ℕ) (size : ℕ) → (checkOf sheet ≡ refusal.accepted → ⊥) → refused (checkOf sheet) ≡ writeAnswer sheet exps codes size
+unfolding writeAnswer
+write-sheet sheet exps codes size h = rw (ne-eqb (checkOf sheet) refusal.accepted h)
 
-module _ (sheet exps codes : List ℕ) (size : ℕ) where
-  -- 1, 2 and 11
-  pub write-sheet : (checkOf sheet ≡ refusal.accepted → ⊥) → turnedBack (checkOf sheet) ≡ writeAnswer sheet exps codes size
-  unfolding writeAnswer
-  write-sheet h = rw (ne-eqb (checkOf sheet) refusal.accepted h)
+pub write-accepted : (sheet exps codes : List ℕ) (size : ℕ) → checkOf sheet ≡ refusal.accepted → writeUnder (settingsOf sheet) exps codes size ≡ writeAnswer sheet exps codes size
+unfolding writeAnswer
+write-accepted sheet exps codes size a = rw (eq-eqb (checkOf sheet) refusal.accepted a)
 
+module _ (settings : Settings) (exps codes : List ℕ) (size : ℕ) where
   -- 10
-  pub write-exps-length : checkOf sheet ≡ refusal.accepted → (length exps ≡ bufferLength (channels sheet) → ⊥)
-      → turnedBack refusal.wrongLength ≡ writeAnswer sheet exps codes size
-  unfolding writeAnswer
-  write-exps-length a h = rw (eq-eqb (checkOf sheet) refusal.accepted a, ne-eqb (length exps) (bufferLength (channels sheet)) h)
+  pub write-exps-length : (length exps ≡ bufferLength (channels settings) → ⊥) → refused refusal.wrongLength ≡ writeUnder settings exps codes size
+  unfolding writeUnder
+  write-exps-length h = rw (ne-eqb (length exps) (bufferLength (channels settings)) h)
 
-  pub write-codes-length : checkOf sheet ≡ refusal.accepted → length exps ≡ bufferLength (channels sheet) → (length codes ≡ bufferLength (channels sheet) → ⊥)
-      → turnedBack refusal.wrongLength ≡ writeAnswer sheet exps codes size
-  unfolding writeAnswer
-  write-codes-length a e h =
-      rw (
-        eq-eqb (checkOf sheet) refusal.accepted a,
-        eq-eqb (length exps) (bufferLength (channels sheet)) e,
-        ne-eqb (length codes) (bufferLength (channels sheet)) h,
-      )
+  pub write-codes-length : length exps ≡ bufferLength (channels settings) → (length codes ≡ bufferLength (channels settings) → ⊥)
+      → refused refusal.wrongLength ≡ writeUnder settings exps codes size
+  unfolding writeUnder
+  write-codes-length e h = rw (eq-eqb (length exps) (bufferLength (channels settings)) e, ne-eqb (length codes) (bufferLength (channels settings)) h)
 
-  module _ (s : Sized sheet exps codes) where
-    sheet-passes : eqb (checkOf sheet) refusal.accepted ≡ true
-    sheet-passes = eq-eqb (checkOf sheet) refusal.accepted (s .accepted)
+  module _ (s : Sized settings exps codes) where
+    exps-pass : eqb (length exps) (bufferLength (channels settings)) ≡ true
+    exps-pass = eq-eqb (length exps) (bufferLength (channels settings)) (omega (arith, s .exps-long))
 
-    exps-pass : eqb (length exps) (bufferLength (channels sheet)) ≡ true
-    exps-pass = eq-eqb (length exps) (bufferLength (channels sheet)) (omega (arith, s .exps-long))
-
-    codes-pass : eqb (length codes) (bufferLength (channels sheet)) ≡ true
-    codes-pass = eq-eqb (length codes) (bufferLength (channels sheet)) (omega (arith, s .codes-long))
+    codes-pass : eqb (length codes) (bufferLength (channels settings)) ≡ true
+    codes-pass = eq-eqb (length codes) (bufferLength (channels settings)) (omega (arith, s .codes-long))
 
     -- 4
-    pub write-bad-exps : expsLegal sheet exps ≡ false → turnedBack refusal.badExponent ≡ writeAnswer sheet exps codes size
-    unfolding writeAnswer
-    write-bad-exps h = rw (sheet-passes, exps-pass, codes-pass, h)
+    pub write-bad-exps : expsLegal settings exps ≡ false → refused refusal.badExponent ≡ writeUnder settings exps codes size
+    unfolding writeUnder
+    write-bad-exps h = rw (exps-pass, codes-pass, h)
 
     -- 5
-    pub write-bad-codes : expsLegal sheet exps ≡ true → codesLegal sheet exps codes ≡ false → turnedBack refusal.badCode ≡ writeAnswer sheet exps codes size
-    unfolding writeAnswer
-    write-bad-codes e h = rw (sheet-passes, exps-pass, codes-pass, e, h)
+    pub write-bad-codes : expsLegal settings exps ≡ true → codesLegal settings exps codes ≡ false → refused refusal.badCode ≡ writeUnder settings exps codes size
+    unfolding writeUnder
+    write-bad-codes e h = rw (exps-pass, codes-pass, e, h)
 
     -- 6
-    pub write-no-room : LegalFrame sheet exps codes → (n : ℕ) → n ≡ length (bodyBits sheet exps codes) → size < bytesFor n
-        → turnedBack refusal.noRoom ≡ writeAnswer sheet exps codes size
-    unfolding writeAnswer
-    write-no-room legal n e h = rw (sheet-passes, exps-pass, codes-pass, legal .shaped, legal .coded, ← e, lt-ltb size (bytesFor n) h)
+    pub write-no-room : LegalFrame settings exps codes → (n : ℕ) → n ≡ length (bodyBits settings exps codes) → size < bytesFor n
+        → refused refusal.noRoom ≡ writeUnder settings exps codes size
+    unfolding writeUnder
+    write-no-room legal n e h = rw (exps-pass, codes-pass, legal .shaped, legal .coded, ← e, lt-ltb size (bytesFor n) h)
 
     -- written
-    pub write-done : LegalFrame sheet exps codes → (counts : List ℕ) (n : ℕ) → counts ≡ countsOf sheet exps codes → n ≡ length (bodyBits sheet exps codes) → bytesFor n ≤ size
-        → gives counts n ≡ writeAnswer sheet exps codes size
-    unfolding writeAnswer
-    write-done legal counts n c e h = rw (sheet-passes, exps-pass, codes-pass, legal .shaped, legal .coded, ← e, ← c, le-ltb size (bytesFor n) h)
+    pub write-done : LegalFrame settings exps codes → (counts : List ℕ) (n : ℕ) → counts ≡ countsOf settings exps codes → n ≡ length (bodyBits settings exps codes) → bytesFor n ≤ size
+        → gives counts n ≡ writeUnder settings exps codes size
+    unfolding writeUnder
+    write-done legal counts n c e h = rw (exps-pass, codes-pass, legal .shaped, legal .coded, ← e, ← c, le-ltb size (bytesFor n) h)
 
 -- the sum of the twelve counts is the length of the body
-pub body-counted : (sheet exps codes counts : List ℕ) (n : ℕ) → counts ≡ countsOf sheet exps codes → n ≡ total counts → n ≡ length (bodyBits sheet exps codes)
-body-counted sheet exps codes counts n c e = e ∙ ap total c ∙ sym (body-count sheet exps codes)
+pub body-counted : (settings : Settings) (exps codes counts : List ℕ) (n : ℕ) → counts ≡ countsOf settings exps codes → n ≡ total counts → n ≡ length (bodyBits settings exps codes)
+body-counted settings exps codes counts n c e = e ∙ ap total c ∙ sym (body-count settings exps codes)
 
 -- clean codes are answered as those they come from
-pub write-cleaned : (sheet exps codes : List ℕ) (size : ℕ) → checkOf sheet ≡ refusal.accepted → length codes ≡ 256 * channels sheet * 6
-    → writeAnswer sheet exps (cleaned sheet codes) size ≡ writeAnswer sheet exps codes size
-unfolding writeAnswer
-write-cleaned sheet exps codes size a l =
-    rw (length-cleaned sheet codes a l ∙ sym l, cleaned-legal sheet codes a l exps, cleaned-bits sheet codes a l exps, cleaned-counts sheet codes a l exps)
+pub write-cleaned : (settings : Settings) (exps codes : List ℕ) (size : ℕ) → LegalSettings settings → length codes ≡ 256 * channels settings * 6
+    → writeUnder settings exps (cleaned settings codes) size ≡ writeUnder settings exps codes size
+unfolding writeUnder
+write-cleaned settings exps codes size u l =
+    rw (length-cleaned settings codes u l ∙ sym l, cleaned-legal settings codes u l exps, cleaned-bits settings codes u l exps, cleaned-counts settings codes u l exps)

@@ -13,7 +13,7 @@ use Rattle.bits.specs.Parts.{joined}
 use Rattle.bits.specs.Refusal as refusal
 use Rattle.shaping.specs.Strategies.{selectRefusal, selected}
 use Rattle.sheet.specs.Common.{commonOf, channelsOf}
-use Rattle.sheet.specs.Record.{recordOf}
+use Rattle.sheet.specs.Settings.{settingsOf, recordAt, endAt}
 use Rattle.sheet.specs.Sheet.{checkOf, checkBeside}
 
 -- a result slice has its n entries
@@ -66,13 +66,13 @@ allocationCheck sheet channel = checkBeside (ltb channel (channelsOf (commonOf s
 unfoldable pub allocationNumber : List ℕ → ℕ → List ℕ → ℕ → ℕ
 allocationNumber sheet channel exp size =
     cond (not (eqb (allocationCheck sheet channel) refusal.accepted)) (allocationCheck sheet channel)
-    (answerOf (commonOf sheet) (recordOf sheet channel) (recordOf sheet channel .end) exp size)
+    (answerOf (settingsOf sheet .common) (recordAt (settingsOf sheet) channel) (endAt (settingsOf sheet) channel) exp size)
 
 -- bap afterwards: a sheet or a channel that is refused leaves it
 unfoldable pub allocationLeft : List ℕ → ℕ → List ℕ → List ℕ → List ℕ
 allocationLeft sheet channel exp bap =
     cond (not (eqb (allocationCheck sheet channel) refusal.accepted)) bap
-    (leftIn (commonOf sheet) (recordOf sheet channel) (recordOf sheet channel .end) exp bap)
+    (leftIn (settingsOf sheet .common) (recordAt (settingsOf sheet) channel) (endAt (settingsOf sheet) channel) exp bap)
 
 -- ---- the frame's reader: twelve counts, and the number of bits
 

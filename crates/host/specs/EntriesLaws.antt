@@ -1,11 +1,11 @@
 -- Laws of the entries: one for each way through them.
-use mathlib.Core.Path.{_≡_, refl, ap, _∙_}
+use mathlib.Core.Path.{_≡_, refl, sym, ap, _∙_}
 use mathlib.Core.Bool.{Bool, true, false, _&&_}
 use mathlib.Core.List.{List, [], _∷_}
-use Prim.Native.Nat.{ℕ, _*_, _/_, _%_}
+use Prim.Native.Nat.{ℕ, _*_, _/_, _%_, _<_}
 use native.Mathlib.Omega.{arith}
-use borrow.Author.Tests.{eqb-true, eqb-false, eq-eqb, ne-eqb}
-use lib.Dec.{eqb}
+use borrow.Author.Tests.{eqb-true, eqb-false, eq-eqb, ne-eqb, ltb-true}
+use lib.Dec.{eqb, ltb}
 use lib.Ieee.{Float}
 use lib.ListN.{length, set, replicate}
 use Rattle.allocation.specs.Allocation.{answerOf, leftIn}
@@ -17,8 +17,12 @@ use Rattle.frame.specs.Answers.{bodyLeft}
 use Rattle.frame.specs.declared.answer.FrameAnswer.{FrameAnswer}
 use Rattle.frame_encoder.specs.Encode.{left}
 use Rattle.shaping.specs.Strategies.{selectRefusal, selected}
-use Rattle.sheet.specs.Common.{commonOf}
+use Rattle.sheet.specs.CauseLaws.{beside-accepted}
+use Rattle.sheet.specs.Common.{commonOf, channelsOf}
+use Rattle.sheet.specs.Laws.{legal-sheet}
 use Rattle.sheet.specs.Record.{recordOf}
+use Rattle.sheet.specs.Settings.{settingsOf, recordAt, endAt}
+use Rattle.sheet.specs.SettingsLaws.{settings-common, settings-record}
 use Rattle.sheet.specs.Sheet.{checkOf}
 use Rattle.sheet.specs.declared.common_part.Common.{Common}
 use Rattle.sheet.specs.declared.record.ChannelRecord.{ChannelRecord}
@@ -213,13 +217,16 @@ module _ (sheet : List ℕ) (channel : ℕ) (exp bap : List ℕ) where
   unfolding allocationNumber allocationLeft
   allocation-refused h = (rw (ne-eqb (allocationCheck sheet channel) refusal.accepted h), rw (ne-eqb (allocationCheck sheet channel) refusal.accepted h))
 
+  -- an accepted sheet's settings hold what stands among its bytes
   pub allocation-called : (common : Common) (chosen : ChannelRecord) (number : ℕ) (bap' : List ℕ) → allocationCheck sheet channel ≡ refusal.accepted
       → common ≡ commonOf sheet → chosen ≡ recordOf sheet channel
       → number ≡ answerOf common chosen (chosen .end) exp (length bap) → bap' ≡ leftIn common chosen (chosen .end) exp bap
       → (number ≡ allocationNumber sheet channel exp (length bap)) × (bap' ≡ allocationLeft sheet channel exp bap)
-  unfolding allocationNumber allocationLeft
+  unfolding allocationNumber allocationLeft endAt
   allocation-called common chosen number bap' e p q a l =
-      let answer = a ∙ ap (λ (k : Common). answerOf k chosen (chosen .end) exp (length bap)) p ∙ ap (λ (r : ChannelRecord). answerOf (commonOf sheet) r (r .end) exp (length bap)) q in
-      let left = l ∙ ap (λ (k : Common). leftIn k chosen (chosen .end) exp bap) p ∙ ap (λ (r : ChannelRecord). leftIn (commonOf sheet) r (r .end) exp bap) q in
+      let both = beside-accepted sheet (ltb channel (channelsOf (commonOf sheet))) e in
+      let few : channel < 6 = omega (arith, ltb-true channel (channelsOf (commonOf sheet)) (both .0), legal-sheet sheet (both .1) .common .channels-most) in
+      let same : common ≡ settingsOf sheet .common = p ∙ sym (settings-common sheet (both .1)) in
+      let is : chosen ≡ recordAt (settingsOf sheet) channel = q ∙ sym (settings-record sheet (both .1) channel few) in
       let passes = eq-eqb (allocationCheck sheet channel) refusal.accepted e in
-      (rw passes answer, rw passes left)
+      (rw passes (rw (same, is) at a), rw passes (rw (same, is) at l))

@@ -3,6 +3,7 @@ ghost use mathlib.Core.Path.{_≡_};
 ghost use mathlib.Core.List.{[], _∷_};
 ghost use lib.ListN.{length, replicate};
 ghost use Rattle.bits.specs.Field.{bitsOf};
+ghost use Rattle.sheet.specs.Settings.{settingsOf};
 ghost use Rattle.frame.specs.Answers.{writeAnswer, bodyLeft, readAnswer, readLeft, reached, expsRead, bapRead, codesRead};
 ghost use Rattle.frame.specs.Body.{bodyBits};
 ghost use Rattle.frame.specs.Reader.{readFrame};
@@ -27,10 +28,10 @@ pub extern "C" fn ac3_encode_body(
 ) -> u32
     ensures { λ r. ⌜ r ≡ sheetFirst (now (sheet .entry)) (hasLength 12 (now (counts .entry))) (encodeAnswer (now (sheet .entry)) (now (coeffs .entry)) (length (now (exps .entry))) (length (now (bap .entry))) (length (now (codes .entry))) (length (now (body .entry))) .refusal) ⌝ }
     ensures { λ _. ⌜ now (counts .exit) ≡ returned 12 (encodeAnswer (now (sheet .entry)) (now (coeffs .entry)) (length (now (exps .entry))) (length (now (bap .entry))) (length (now (codes .entry))) (length (now (body .entry))) .counts) (now (counts .entry)) ⌝ }
-    ensures { λ _. ⌜ now (exps .exit) ≡ ifCalled (hasLength 12 (now (counts .entry))) (left (encodeAnswer (now (sheet .entry)) (now (coeffs .entry)) (length (now (exps .entry))) (length (now (bap .entry))) (length (now (codes .entry))) (length (now (body .entry)))) (expsOf (now (sheet .entry)) (now (coeffs .entry))) (now (exps .entry))) (now (exps .entry)) ⌝ }
-    ensures { λ _. ⌜ now (bap .exit) ≡ ifCalled (hasLength 12 (now (counts .entry))) (left (encodeAnswer (now (sheet .entry)) (now (coeffs .entry)) (length (now (exps .entry))) (length (now (bap .entry))) (length (now (codes .entry))) (length (now (body .entry)))) (bapsOf (now (sheet .entry)) (expsOf (now (sheet .entry)) (now (coeffs .entry)))) (now (bap .entry))) (now (bap .entry)) ⌝ }
-    ensures { λ _. ⌜ now (codes .exit) ≡ ifCalled (hasLength 12 (now (counts .entry))) (left (encodeAnswer (now (sheet .entry)) (now (coeffs .entry)) (length (now (exps .entry))) (length (now (bap .entry))) (length (now (codes .entry))) (length (now (body .entry)))) (codesOf (now (sheet .entry)) (now (coeffs .entry))) (now (codes .entry))) (now (codes .entry)) ⌝ }
-    ensures { λ _. ⌜ now (body .exit) ≡ ifCalled (hasLength 12 (now (counts .entry))) (bodyLeft (encodeAnswer (now (sheet .entry)) (now (coeffs .entry)) (length (now (exps .entry))) (length (now (bap .entry))) (length (now (codes .entry))) (length (now (body .entry)))) (encodedBits (now (sheet .entry)) (now (coeffs .entry))) (now (body .entry))) (now (body .entry)) ⌝ }
+    ensures { λ _. ⌜ now (exps .exit) ≡ ifCalled (hasLength 12 (now (counts .entry))) (left (encodeAnswer (now (sheet .entry)) (now (coeffs .entry)) (length (now (exps .entry))) (length (now (bap .entry))) (length (now (codes .entry))) (length (now (body .entry)))) (expsOf (settingsOf (now (sheet .entry))) (now (coeffs .entry))) (now (exps .entry))) (now (exps .entry)) ⌝ }
+    ensures { λ _. ⌜ now (bap .exit) ≡ ifCalled (hasLength 12 (now (counts .entry))) (left (encodeAnswer (now (sheet .entry)) (now (coeffs .entry)) (length (now (exps .entry))) (length (now (bap .entry))) (length (now (codes .entry))) (length (now (body .entry)))) (bapsOf (settingsOf (now (sheet .entry))) (expsOf (settingsOf (now (sheet .entry))) (now (coeffs .entry)))) (now (bap .entry))) (now (bap .entry)) ⌝ }
+    ensures { λ _. ⌜ now (codes .exit) ≡ ifCalled (hasLength 12 (now (counts .entry))) (left (encodeAnswer (now (sheet .entry)) (now (coeffs .entry)) (length (now (exps .entry))) (length (now (bap .entry))) (length (now (codes .entry))) (length (now (body .entry)))) (codesOf (settingsOf (now (sheet .entry))) (now (coeffs .entry))) (now (codes .entry))) (now (codes .entry)) ⌝ }
+    ensures { λ _. ⌜ now (body .exit) ≡ ifCalled (hasLength 12 (now (counts .entry))) (bodyLeft (encodeAnswer (now (sheet .entry)) (now (coeffs .entry)) (length (now (exps .entry))) (length (now (bap .entry))) (length (now (codes .entry))) (length (now (body .entry)))) (encodedBits (settingsOf (now (sheet .entry))) (now (coeffs .entry))) (now (body .entry))) (now (body .entry)) ⌝ }
 {
     if counts.len() != 12 {
         return slot_refusal(sheet);
@@ -51,7 +52,7 @@ pub extern "C" fn ac3_write_body(
 ) -> u32
     ensures { λ r. ⌜ r ≡ sheetFirst (now (sheet .entry)) (hasLength 12 (now (counts .entry))) (writeAnswer (now (sheet .entry)) (now (exps .entry)) (now (codes .entry)) (length (now (body .entry))) .refusal) ⌝ }
     ensures { λ _. ⌜ now (counts .exit) ≡ returned 12 (writeAnswer (now (sheet .entry)) (now (exps .entry)) (now (codes .entry)) (length (now (body .entry))) .counts) (now (counts .entry)) ⌝ }
-    ensures { λ _. ⌜ now (body .exit) ≡ ifCalled (hasLength 12 (now (counts .entry))) (bodyLeft (writeAnswer (now (sheet .entry)) (now (exps .entry)) (now (codes .entry)) (length (now (body .entry)))) (bodyBits (now (sheet .entry)) (now (exps .entry)) (now (codes .entry))) (now (body .entry))) (now (body .entry)) ⌝ }
+    ensures { λ _. ⌜ now (body .exit) ≡ ifCalled (hasLength 12 (now (counts .entry))) (bodyLeft (writeAnswer (now (sheet .entry)) (now (exps .entry)) (now (codes .entry)) (length (now (body .entry)))) (bodyBits (settingsOf (now (sheet .entry))) (now (exps .entry)) (now (codes .entry))) (now (body .entry))) (now (body .entry)) ⌝ }
 {
     if counts.len() != 12 {
         return slot_refusal(sheet);
@@ -92,9 +93,9 @@ pub extern "C" fn ac3_read_body(
     ensures { λ r. ⌜ r ≡ sheetFirst (now (sheet .entry)) (rightSlots (now (counts .entry)) (now (bits .entry))) (readAnswer (now (sheet .entry)) (bitsOf (now (input .entry))) (length (now (exps .entry))) (length (now (bap .entry))) (length (now (codes .entry))) .refusal) ⌝ }
     ensures { λ _. ⌜ now (counts .exit) ≡ returned 12 (ifCalled (rightSlots (now (counts .entry)) (now (bits .entry))) (readAnswer (now (sheet .entry)) (bitsOf (now (input .entry))) (length (now (exps .entry))) (length (now (bap .entry))) (length (now (codes .entry))) .counts) (replicate 12 0)) (now (counts .entry)) ⌝ }
     ensures { λ _. ⌜ now (bits .exit) ≡ returned 1 (ifCalled (rightSlots (now (counts .entry)) (now (bits .entry))) (readAnswer (now (sheet .entry)) (bitsOf (now (input .entry))) (length (now (exps .entry))) (length (now (bap .entry))) (length (now (codes .entry))) .bits ∷ []) (0 ∷ [])) (now (bits .entry)) ⌝ }
-    ensures { λ _. ⌜ now (exps .exit) ≡ ifCalled (rightSlots (now (counts .entry)) (now (bits .entry))) (readLeft (reached (now (sheet .entry)) (length (now (exps .entry))) (length (now (bap .entry))) (length (now (codes .entry)))) expsRead (readFrame (now (sheet .entry)) (bitsOf (now (input .entry)))) (now (exps .entry))) (now (exps .entry)) ⌝ }
-    ensures { λ _. ⌜ now (bap .exit) ≡ ifCalled (rightSlots (now (counts .entry)) (now (bits .entry))) (readLeft (reached (now (sheet .entry)) (length (now (exps .entry))) (length (now (bap .entry))) (length (now (codes .entry)))) bapRead (readFrame (now (sheet .entry)) (bitsOf (now (input .entry)))) (now (bap .entry))) (now (bap .entry)) ⌝ }
-    ensures { λ _. ⌜ now (codes .exit) ≡ ifCalled (rightSlots (now (counts .entry)) (now (bits .entry))) (readLeft (reached (now (sheet .entry)) (length (now (exps .entry))) (length (now (bap .entry))) (length (now (codes .entry)))) codesRead (readFrame (now (sheet .entry)) (bitsOf (now (input .entry)))) (now (codes .entry))) (now (codes .entry)) ⌝ }
+    ensures { λ _. ⌜ now (exps .exit) ≡ ifCalled (rightSlots (now (counts .entry)) (now (bits .entry))) (readLeft (reached (now (sheet .entry)) (length (now (exps .entry))) (length (now (bap .entry))) (length (now (codes .entry)))) expsRead (readFrame (settingsOf (now (sheet .entry))) (bitsOf (now (input .entry)))) (now (exps .entry))) (now (exps .entry)) ⌝ }
+    ensures { λ _. ⌜ now (bap .exit) ≡ ifCalled (rightSlots (now (counts .entry)) (now (bits .entry))) (readLeft (reached (now (sheet .entry)) (length (now (exps .entry))) (length (now (bap .entry))) (length (now (codes .entry)))) bapRead (readFrame (settingsOf (now (sheet .entry))) (bitsOf (now (input .entry)))) (now (bap .entry))) (now (bap .entry)) ⌝ }
+    ensures { λ _. ⌜ now (codes .exit) ≡ ifCalled (rightSlots (now (counts .entry)) (now (bits .entry))) (readLeft (reached (now (sheet .entry)) (length (now (exps .entry))) (length (now (bap .entry))) (length (now (codes .entry)))) codesRead (readFrame (settingsOf (now (sheet .entry))) (bitsOf (now (input .entry)))) (now (codes .entry))) (now (codes .entry)) ⌝ }
 {
     if counts.len() != 12 {
         no_bits(bits);

@@ -3,6 +3,7 @@ ghost use mathlib.Core.Path.{_≡_};
 ghost use mathlib.Core.List.{[], _∷_};
 ghost use lib.ListN.{length};
 ghost use Rattle.quantiser.specs.Scale.{zero32};
+ghost use Rattle.sheet.specs.Settings.{settingsOf};
 ghost use Rattle.reconstruct.specs.Bin.{flagOf, levelOf, binAnswer};
 ghost use Rattle.reconstruct.specs.Copy.{flagsOf, levelsOf, copyNumber, copyLeft};
 ghost use Rattle.host.specs.Entries.{lengthFirst, returned, ifCalled, oneEach};
@@ -63,8 +64,8 @@ pub extern "C" fn ac3_reconstruct_body(
     levels: &mut [f32],
 ) -> u32
     ensures { λ r. ⌜ r ≡ copyNumber (now (sheet .entry)) (now (exps .entry)) (now (codes .entry)) (length (now («has_level» .entry))) (length (now (levels .entry))) ⌝ }
-    ensures { λ r. ⌜ now («has_level» .exit) ≡ copyLeft r (flagsOf (now (sheet .entry)) (now (exps .entry)) (now (codes .entry))) (now («has_level» .entry)) ⌝ }
-    ensures { λ r. ⌜ now (levels .exit) ≡ copyLeft r (levelsOf (now (sheet .entry)) (now (exps .entry)) (now (codes .entry))) (now (levels .entry)) ⌝ }
+    ensures { λ r. ⌜ now («has_level» .exit) ≡ copyLeft r (flagsOf (settingsOf (now (sheet .entry))) (now (exps .entry)) (now (codes .entry))) (now («has_level» .entry)) ⌝ }
+    ensures { λ r. ⌜ now (levels .exit) ≡ copyLeft r (levelsOf (settingsOf (now (sheet .entry))) (now (exps .entry)) (now (codes .entry))) (now (levels .entry)) ⌝ }
 {
     reconstruct::reconstruct_body(sheet, exps, codes, has_level, levels)
 }

@@ -6,10 +6,10 @@ use lib.Dec.{eqb}
 use lib.ListN.{length}
 use Rattle.bits.specs.Refusal as refusal
 use Rattle.frame.specs.Answers.{must, sheetFirst}
-use Rattle.frame.specs.Layout.{channels}
 use Rattle.frame.specs.declared.answer.FrameAnswer.{FrameAnswer}
 use Rattle.frame_encoder.specs.Encode.{encodeAnswer}
 use Rattle.sheet.specs.Layout.{bufferLength}
+use Rattle.sheet.specs.Settings.{channels}
 use Rattle.input.specs.Input.{sheetIn, coefficientBytes, coefficientsIn}
 
 -- the bytes for the body: more than the longest body has (frame_body/specs/Size.antt `body-most`)
@@ -22,4 +22,4 @@ bytesAnswer sheet bytes n = must (eqb (length bytes) (4 * n)) refusal.wrongLengt
 
 -- to the whole input
 unfoldable pub programAnswer : List ℕ → FrameAnswer
-programAnswer input = sheetFirst (sheetIn input) (bytesAnswer (sheetIn input) (coefficientBytes input) (bufferLength (channels (sheetIn input))))
+programAnswer input = sheetFirst (sheetIn input) (λ settings. bytesAnswer (sheetIn input) (coefficientBytes input) (bufferLength (channels settings)))

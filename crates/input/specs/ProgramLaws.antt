@@ -8,14 +8,14 @@ use lib.Ieee.{Float}
 use lib.ListN.{length, take, drop, length-append, length-take, length-drop}
 use lib.Seq.{take-at, take-length}
 use Rattle.bits.specs.Refusal as refusal
-use Rattle.frame.specs.Answers.{turnedBack}
-use Rattle.frame.specs.Layout.{channels}
-use Rattle.frame.specs.Under.{channels-some}
+use Rattle.frame.specs.Answers.{refused}
 use Rattle.frame.specs.declared.answer.FrameAnswer.{FrameAnswer}
 use Rattle.frame_encoder.specs.Encode.{encodeAnswer}
-use Rattle.sheet.specs.Common.{commonOf, channelsOf}
 use Rattle.sheet.specs.Layout.{bufferLength}
-use Rattle.sheet.specs.declared.common_part.Common.{Common}
+use Rattle.sheet.specs.LegalSettings.{ChannelCount}
+use Rattle.sheet.specs.Settings.{settingsOf, channels}
+use Rattle.sheet.specs.Sizes.{mostBuffer}
+use Rattle.sheet.specs.declared.settings.Settings.{Settings}
 use Rattle.sheet.specs.Sheet.{checkOf}
 use Rattle.input.specs.Input.{sheetSize, sheetIn, coefficientBytes, coefficientsIn}
 use Rattle.input.specs.Program.{bodyRoom, bytesAnswer, programAnswer}
@@ -59,22 +59,22 @@ module _ (input : List ℕ) (size : ℕ) (e : size ≡ sheetSize input) where
   bytes-read = ap (λ (k : ℕ). drop k input) e
 
   -- 1, 2 and 11
-  pub program-sheet : (number : ℕ) (r : FrameAnswer) → number ≡ checkOf (take (size - 0) input) → (number ≡ refusal.accepted → ⊥) → r ≡ turnedBack number
+  pub program-sheet : (number : ℕ) (r : FrameAnswer) → number ≡ checkOf (take (size - 0) input) → (number ≡ refusal.accepted → ⊥) → r ≡ refused number
       → r ≡ programAnswer input
   unfolding programAnswer
   program-sheet number r q h t =
       let f : number ≡ checkOf (sheetIn input) = q ∙ ap checkOf sheet-read in
       t ∙ rw (f, ne-eqb (checkOf (sheetIn input)) refusal.accepted (λ z. h (f ∙ z)))
 
-  module _ (accepted : checkOf (take (size - 0) input) ≡ refusal.accepted) (n : ℕ) (whole : n ≡ bufferLength (channels (take (size - 0) input))) where
+  module _ (accepted : checkOf (take (size - 0) input) ≡ refusal.accepted) (n : ℕ) (whole : n ≡ bufferLength (channels (settingsOf (take (size - 0) input)))) where
     accepted-in : checkOf (sheetIn input) ≡ refusal.accepted
     accepted-in = ap checkOf (sym sheet-read) ∙ accepted
 
-    whole-in : bufferLength (channels (sheetIn input)) ≡ n
-    whole-in = ap (λ (s : List ℕ). bufferLength (channels s)) (sym sheet-read) ∙ sym whole
+    whole-in : bufferLength (channels (settingsOf (sheetIn input))) ≡ n
+    whole-in = ap (λ (s : List ℕ). bufferLength (channels (settingsOf s))) (sym sheet-read) ∙ sym whole
 
     -- 10
-    pub program-length : (r : FrameAnswer) → (length input - size ≡ 4 * n → ⊥) → r ≡ turnedBack refusal.wrongLength → r ≡ programAnswer input
+    pub program-length : (r : FrameAnswer) → (length input - size ≡ 4 * n → ⊥) → r ≡ refused refusal.wrongLength → r ≡ programAnswer input
     unfolding programAnswer bytesAnswer
     program-length r h t =
         let g : length (coefficientBytes input) ≡ 4 * n → ⊥ = λ z. h (sym (length-drop size input) ∙ ap length bytes-read ∙ z) in
@@ -91,16 +91,9 @@ module _ (input : List ℕ) (size : ℕ) (e : size ≡ sheetSize input) where
         ∙ rw (eq-eqb (checkOf (sheetIn input)) refusal.accepted accepted-in, whole-in, eq-eqb (length (coefficientBytes input)) (4 * n) g)
 
 -- the entries of a buffer, as the code counts them
-pub whole-buffer : (sheet : List ℕ) (common : Common) (count n : ℕ) → common ≡ commonOf sheet → count ≡ channelsOf common → n ≡ bufferLength count
-    → n ≡ bufferLength (channels sheet)
-unfolding channels
-whole-buffer sheet common count n p q r = r ∙ ap bufferLength (q ∙ ap channelsOf p)
+pub whole-buffer : (sheet : List ℕ) (count n : ℕ) {settings : Settings} → settings ≡ settingsOf sheet → ChannelCount settings count → n ≡ bufferLength count
+    → n ≡ bufferLength (channels (settingsOf sheet))
+whole-buffer sheet count n e many r = r ∙ ap bufferLength (many .is ∙ ap channels e)
 
--- six channels at most, and so many entries
-pub channels-few : (sheet : List ℕ) (number count : ℕ) {common : Common} → number ≡ checkOf sheet → number ≡ refusal.accepted → common ≡ commonOf sheet
-    → count ≡ channelsOf common → count ≤ 6
-unfolding channels
-channels-few sheet number count e h p q = omega (arith, channels-some sheet (sym e ∙ h) .1, q ∙ ap channelsOf p)
-
-pub buffer-most : (sheet : List ℕ) (number n : ℕ) → number ≡ checkOf sheet → number ≡ refusal.accepted → n ≡ bufferLength (channels sheet) → n ≤ 9216
-buffer-most sheet number n e h q = omega (arith, channels-some sheet (sym e ∙ h) .1, q)
+pub buffer-most : (count n : ℕ) {settings : Settings} → ChannelCount settings count → n ≡ bufferLength count → n ≤ mostBuffer
+buffer-most count n many r = omega (arith, many .most, r)

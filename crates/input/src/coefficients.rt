@@ -2,6 +2,7 @@
 ghost use mathlib.Core.Path.{_≡_};
 ghost use Prim.Native.Nat.{_+_, _*_, _≤_, _<_};
 ghost use lib.ListN.{length};
+ghost use Rattle.sheet.specs.Sizes.{mostBuffer};
 ghost use Rattle.input.specs.Input.{patternAt, coefficientsIn};
 
 fn wide(x: u8) -> u32
@@ -22,7 +23,7 @@ fn pattern_at(bytes: &[u8], at: usize) -> u32
 
 // The coefficients of four times as many bytes.
 pub(crate) fn read_coefficients(bytes: &[u8], coeffs: &mut [f32])
-    requires { ⌜ (length (now bytes) ≡ 4 * length (now coeffs)) × (length (now coeffs) ≤ 9216) ⌝ }
+    requires { ⌜ (length (now bytes) ≡ 4 * length (now coeffs)) × (length (now coeffs) ≤ mostBuffer) ⌝ }
     ensures { λ _. ⌜ now (coeffs .exit) ≡ coefficientsIn (length (now (coeffs .entry))) (now (bytes .entry)) ⌝ }
 {
     for i in 0..coeffs.len() {

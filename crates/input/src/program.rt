@@ -3,12 +3,14 @@ ghost use mathlib.Core.Path.{_≡_};
 ghost use Prim.Native.Nat.{_*_, _≤_};
 ghost use lib.ListN.{length};
 ghost use Rattle.frame_encoder.specs.Encode.{encodeAnswer};
+ghost use Rattle.sheet.specs.Sizes.{mostBuffer};
 ghost use Rattle.input.specs.Input.{sheetSize, coefficientsIn};
 ghost use Rattle.input.specs.Program.{bodyRoom, programAnswer};
 use crate::coefficients::read_coefficients;
 use bits::refusal::ACCEPTED;
 use bits::refusal::WRONG_LENGTH;
 use frame::FrameAnswer;
+use sheet::MOST_BUFFER;
 
 // Where the sheet ends, by its own length.
 fn sheet_size(input: &[u8]) -> usize
@@ -24,11 +26,11 @@ fn sheet_size(input: &[u8]) -> usize
     }
 }
 
-// A buffer of coefficients for six channels.
-fn no_coefficients() -> [f32; 9216]
-    ensures { λ r. ⌜ length r ≡ 9216 ⌝ }
+// A buffer of coefficients for the most channels.
+fn no_coefficients() -> [f32; MOST_BUFFER]
+    ensures { λ r. ⌜ length r ≡ mostBuffer ⌝ }
 {
-    [0.0f32; 9216]
+    [0.0f32; MOST_BUFFER]
 }
 
 // Room for any body.
@@ -40,7 +42,7 @@ fn no_body() -> [u8; 21504]
 
 // The buffers of a frame and its body, whose room is that of any frame.
 fn encode_bytes(sheet: &[u8], bytes: &[u8], n: usize) -> FrameAnswer
-    requires { ⌜ (n ≤ 9216) × (length (now bytes) ≡ 4 * n) ⌝ }
+    requires { ⌜ (n ≤ mostBuffer) × (length (now bytes) ≡ 4 * n) ⌝ }
     ensures { λ r. ⌜ r ≡ encodeAnswer (now (sheet .entry)) (coefficientsIn n (now (bytes .entry))) n n n bodyRoom ⌝ }
 {
     let mut coeffs = no_coefficients();
@@ -69,7 +71,7 @@ pub fn encode_input(input: &[u8]) -> FrameAnswer
     if number != ACCEPTED {
         return frame::refused(number);
     }
-    let n = sheet::buffer_length(sheet::channels_of(sheet::common_of(sheet)));
+    let n = sheet::buffer_length(sheet::channels(sheet::settings_of(sheet)));
     let bytes = &input[size..];
     if bytes.len() != 4 * n {
         return frame::refused(WRONG_LENGTH);

@@ -3,7 +3,7 @@
 use mathlib.Core.Bool.{cond}
 use Prim.Native.Nat.{ℕ}
 use lib.Dec.{leb}
-use Rattle.bits.specs.Answer.{gives, turnedBack}
+use Rattle.bits.specs.Answer.{gives, refused}
 use Rattle.bits.specs.Bytes.{bytesFor}
 use Rattle.bits.specs.Refusal as refusal
 use Rattle.bits.specs.declared.answer.Answer.{Answer}
@@ -11,4 +11,4 @@ use Rattle.bits.specs.declared.answer.Answer.{Answer}
 -- a field has at most 16 bits, the widest that A/52's bit stream has here; `size` is the output's length in bytes
 unfoldable pub fieldWritten : ℕ → ℕ → Answer
 fieldWritten n size =
-    cond (leb n 16) (cond (leb (bytesFor n) size) (gives n) (turnedBack refusal.noRoom)) (turnedBack refusal.outOfRange)
+    cond (leb n 16) (cond (leb (bytesFor n) size) (gives n) (refused refusal.noRoom)) (refused refusal.outOfRange)

@@ -7,7 +7,7 @@ use native.Mathlib.Omega.{arith}
 use lib.Dec.{eqb, leb}
 use lib.ListN.{length, replicate, length-drop}
 use borrow.Author.Tests.{eqb-true, leb-true, lt-ltb, le-ltb, eq-eqb, ne-eqb}
-use Rattle.bits.specs.Answer.{gives, turnedBack, outputOf}
+use Rattle.bits.specs.Answer.{gives, refused, outputOf}
 use Rattle.bits.specs.Bytes.{bytesFor, bytesOf, after}
 use Rattle.bits.specs.Parts.{joined, tab}
 use Rattle.bits.specs.Read.{from}
@@ -20,14 +20,12 @@ use Rattle.bits.specs.declared.answer.Answer.{Answer}
 use Rattle.bits.specs.declared.write.Writer.{Writer}
 use Rattle.mantissas.specs.Blocks.{blockBaps, noBits, blocksAnswer, totalAnswer}
 use Rattle.mantissas.specs.Calls.{mostEntries, oneLength, writeAnswer, readOf, codesOf, readAnswer, codesAfter}
-use Rattle.mantissas.specs.Inner.{Ends}
 use Rattle.mantissas.specs.Stream.{coded, bapsFit, stream, bitCount, readStream}
 use Rattle.mantissas.specs.declared.blocks.MantissaBits.{MantissaBits}
-use Rattle.sheet.specs.Common.{commonOf, channelsOf}
-use Rattle.sheet.specs.Laws.{legal-sheet}
 use Rattle.sheet.specs.Layout.{bufferLength}
-use Rattle.sheet.specs.Record.{endsOf}
+use Rattle.sheet.specs.Settings.{settingsOf, channels}
 use Rattle.sheet.specs.Sheet.{checkOf}
+use Rattle.sheet.specs.declared.settings.Settings.{Settings}
 
 pub one-length-says : (m n : ℕ) → oneLength m n ≡ true → (m ≡ n) × (m ≤ mostEntries)
 unfolding oneLength
@@ -36,16 +34,16 @@ one-length-says m n e = let h = both (eqb m n) (leb m mostEntries) e in (eqb-tru
 -- ---- the writer
 
 module _ (room : ℕ) (bs cs : List ℕ) where
-  pub write-wrong : oneLength (length bs) (length cs) ≡ false → turnedBack refusal.wrongLength ≡ writeAnswer room bs cs
+  pub write-wrong : oneLength (length bs) (length cs) ≡ false → refused refusal.wrongLength ≡ writeAnswer room bs cs
   unfolding writeAnswer
   write-wrong h = rw h
 
-  pub write-bad : oneLength (length bs) (length cs) ≡ true → coded bs cs ≡ false → turnedBack refusal.badCode ≡ writeAnswer room bs cs
+  pub write-bad : oneLength (length bs) (length cs) ≡ true → coded bs cs ≡ false → refused refusal.badCode ≡ writeAnswer room bs cs
   unfolding writeAnswer
   write-bad h k = rw (h, k)
 
   pub write-full : (n : ℕ) → oneLength (length bs) (length cs) ≡ true → coded bs cs ≡ true → n ≡ length (stream bs cs) → room < bytesFor n
-      → turnedBack refusal.noRoom ≡ writeAnswer room bs cs
+      → refused refusal.noRoom ≡ writeAnswer room bs cs
   unfolding writeAnswer
   write-full n h k e l = rw (h, k, ← e, lt-ltb room (bytesFor n) l)
 
@@ -54,7 +52,7 @@ module _ (room : ℕ) (bs cs : List ℕ) where
   unfolding writeAnswer
   write-done n h k e l = rw (h, k, ← e, le-ltb room (bytesFor n) l)
 
-pub output-of-refused : {r : Answer} {k : ℕ} (bits : List Bool) (o : List ℕ) → r ≡ turnedBack k → 0 < k → o ≡ outputOf r bits o
+pub output-of-refused : {r : Answer} {k : ℕ} (bits : List Bool) (o : List ℕ) → r ≡ refused k → 0 < k → o ≡ outputOf r bits o
 output-of-refused {r} {k} bits o e h = rw e (output-left k bits o h)
 
 -- bits that fit the output, written from its first bit on
@@ -79,17 +77,17 @@ module _ {o o' : List ℕ} {v w : Writer} {bits : List Bool} (e : v ≡ begun) (
 
 module _ (bits : List Bool) (bs codes : List ℕ) where
   pub read-wrong : oneLength (length bs) (length codes) ≡ false
-      → (turnedBack refusal.wrongLength ≡ readAnswer bits bs (length codes)) × (codes ≡ codesAfter bits bs codes)
+      → (refused refusal.wrongLength ≡ readAnswer bits bs (length codes)) × (codes ≡ codesAfter bits bs codes)
   unfolding readAnswer codesAfter
   read-wrong h = (rw h, rw h)
 
   pub read-bad : oneLength (length bs) (length codes) ≡ true → bapsFit bs ≡ false
-      → (turnedBack refusal.badCode ≡ readAnswer bits bs (length codes)) × (codes ≡ codesAfter bits bs codes)
+      → (refused refusal.badCode ≡ readAnswer bits bs (length codes)) × (codes ≡ codesAfter bits bs codes)
   unfolding readAnswer codesAfter
   read-bad h k = (rw (h, k), rw (h, k))
 
   pub read-faulty : (j : ℕ) → oneLength (length bs) (length codes) ≡ true → bapsFit bs ≡ true → readStream bs (from 0 bits) ≡ fault j
-      → (turnedBack j ≡ readAnswer bits bs (length codes)) × (replicate (length codes) 0 ≡ codesAfter bits bs codes)
+      → (refused j ≡ readAnswer bits bs (length codes)) × (replicate (length codes) 0 ≡ codesAfter bits bs codes)
   unfolding readAnswer codesAfter readOf codesOf from
   read-faulty j h k e = (rw (h, k, e), rw (h, k, e))
 
@@ -103,33 +101,27 @@ module _ (bits : List Bool) (bs codes : List ℕ) where
 
 -- ---- the counts of the six blocks
 
-module _ (channels : ℕ) (ends bap : List ℕ) where
-  pub blocks-wrong : (length bap ≡ bufferLength channels → ⊥) → noBits refusal.wrongLength ≡ blocksAnswer channels ends bap
+module _ (settings : Settings) (bap : List ℕ) where
+  pub blocks-wrong : (length bap ≡ bufferLength (channels settings) → ⊥) → noBits refusal.wrongLength ≡ blocksAnswer settings bap
   unfolding blocksAnswer
-  blocks-wrong h = rw (ne-eqb (length bap) (bufferLength channels) h)
+  blocks-wrong h = rw (ne-eqb (length bap) (bufferLength (channels settings)) h)
 
-  pub blocks-bad : length bap ≡ bufferLength channels → bapsFit (joined 6 (blockBaps channels ends bap)) ≡ false
-      → noBits refusal.badCode ≡ blocksAnswer channels ends bap
+  pub blocks-bad : length bap ≡ bufferLength (channels settings) → bapsFit (joined 6 (blockBaps settings bap)) ≡ false
+      → noBits refusal.badCode ≡ blocksAnswer settings bap
   unfolding blocksAnswer
-  blocks-bad h k = rw (eq-eqb (length bap) (bufferLength channels) h, k)
+  blocks-bad h k = rw (eq-eqb (length bap) (bufferLength (channels settings)) h, k)
 
-  pub blocks-done : (counts : List ℕ) → length bap ≡ bufferLength channels → bapsFit (joined 6 (blockBaps channels ends bap)) ≡ true
-      → counts ≡ tab 6 (λ block. bitCount (blockBaps channels ends bap block))
-      → _≡_ {A = MantissaBits} (record { refusal = refusal.accepted; counts = counts }) (blocksAnswer channels ends bap)
+  pub blocks-done : (counts : List ℕ) → length bap ≡ bufferLength (channels settings) → bapsFit (joined 6 (blockBaps settings bap)) ≡ true
+      → counts ≡ tab 6 (λ block. bitCount (blockBaps settings bap block))
+      → _≡_ {A = MantissaBits} (record { refusal = refusal.accepted; counts = counts }) (blocksAnswer settings bap)
   unfolding blocksAnswer
-  blocks-done counts h k e = rw (eq-eqb (length bap) (bufferLength channels) h, k, e)
+  blocks-done counts h k e = rw (eq-eqb (length bap) (bufferLength (channels settings)) h, k, e)
 
 module _ (sheet bap : List ℕ) where
   pub total-refused : (checkOf sheet ≡ refusal.accepted → ⊥) → noBits (checkOf sheet) ≡ totalAnswer sheet bap
   unfolding totalAnswer
   total-refused h = rw (ne-eqb (checkOf sheet) refusal.accepted h)
 
-  pub total-done : checkOf sheet ≡ refusal.accepted → blocksAnswer (channelsOf (commonOf sheet)) (endsOf sheet) bap ≡ totalAnswer sheet bap
+  pub total-done : checkOf sheet ≡ refusal.accepted → blocksAnswer (settingsOf sheet) bap ≡ totalAnswer sheet bap
   unfolding totalAnswer
   total-done h = rw (eq-eqb (checkOf sheet) refusal.accepted h)
-
--- an accepted sheet has at most six channels, and their ends are below 256
-pub sheet-ends : (sheet : List ℕ) → checkOf sheet ≡ refusal.accepted → Ends (channelsOf (commonOf sheet)) (endsOf sheet)
-sheet-ends sheet h =
-    let l = legal-sheet sheet h in
-    record { channels-most = l .common .channels-most; end-most = λ c b. omega (arith, l .end-of c b) }

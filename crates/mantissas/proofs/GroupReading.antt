@@ -6,7 +6,7 @@ use Prim.Native.Nat.{ℕ, _^_, _≤_, _<_}
 use native.Mathlib.Omega.{arith}
 use lib.ListN.{length}
 use borrow.Author.Tests.{lt-ltb, le-ltb}
-use Rattle.bits.specs.Answer.{gives, turnedBack}
+use Rattle.bits.specs.Answer.{gives, refused}
 use Rattle.bits.specs.Field.{readField}
 use Rattle.bits.specs.Read.{from, found}
 use Rattle.bits.specs.ReadLaws.{found-value, found-past}
@@ -18,7 +18,7 @@ use Rattle.mantissas.specs.Inner.{GroupRead}
 use Rattle.mantissas.specs.Ranges.{size, levels, width}
 use Rattle.mantissas.specs.Stream.{judged, readGroup}
 
-pub group-past : {b pos n : ℕ} {bits : List Bool} {r : Answer} → n ≡ width b → found (readField n (from pos bits)) ≡ Past → r ≡ turnedBack refusal.pastInput
+pub group-past : {b pos n : ℕ} {bits : List Bool} {r : Answer} → n ≡ width b → found (readField n (from pos bits)) ≡ Past → r ≡ refused refusal.pastInput
     → GroupRead b bits pos r
 unfolding readGroup readBits orPast
 group-past {b} {pos} {n} {bits} {r} en h e =
@@ -27,7 +27,7 @@ group-past {b} {pos} {n} {bits} {r} en h e =
 
 module _ {b pos n m : ℕ} {bits : List Bool} {r : Answer} (v : ℕ) (en : n ≡ width b) (h : found (readField n (from pos bits)) ≡ Value v)
     (em : m ≡ levels b ^ size b) where
-  pub group-no-code : m ≤ v → r ≡ turnedBack refusal.noCode → GroupRead b bits pos r
+  pub group-no-code : m ≤ v → r ≡ refused refusal.noCode → GroupRead b bits pos r
   unfolding readGroup readBits orPast judged
   group-no-code l e =
       let f = found-value n pos bits v h in

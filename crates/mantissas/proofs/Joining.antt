@@ -6,19 +6,23 @@ use Prim.Native.Nat.{ℕ, zero, suc, _+_, _-_, _≤_, _<_}
 use native.Mathlib.Omega.{arith}
 use native.Mathlib.Decide.{decLe}
 use lib.Dec.{ltb}
-use lib.ListN.{length, take, drop, getD, length-take, length-drop}
+use lib.ListN.{length, take, drop, length-take, length-drop}
 use Rattle.bits.specs.Parts.{joined}
 use Rattle.bits.specs.PartsLaws.{joined-more}
 use Rattle.bits.specs.Tests.{by-bool}
 use Rattle.mantissas.specs.Blocks.{partBaps, blockBaps}
 use Rattle.mantissas.specs.BlocksLaws.{block-most}
 use Rattle.mantissas.specs.Formula.{count, alone}
-use Rattle.mantissas.specs.Inner.{Ends, Below, nil, cons}
+use Rattle.mantissas.specs.Inner.{Below, nil, cons}
 use Rattle.mantissas.specs.Stream.{bapsFit, bitCount}
 use Rattle.mantissas.specs.Tally.{tallyOf, tallyBits}
 use Rattle.mantissas.specs.TallyLaws.{tally-append, tally-bits}
 use Rattle.sheet.specs.Layout.{bufferLength}
 use Rattle.sheet.specs.Inner.{PartStart}
+use Rattle.sheet.specs.LegalSettings.{LegalSettings}
+use Rattle.sheet.specs.Settings.{channels, endAt}
+use Rattle.sheet.specs.SettingsLaws.{channels-bounds, end-bounds}
+use Rattle.sheet.specs.declared.settings.Settings.{Settings}
 
 -- ---- the baps of a part are among those of the whole
 
@@ -38,23 +42,28 @@ below-joined {m} f (suc k) i h l =
     by-cases (no e) earlier last = let q : k ≡ i = omega (arith, e) in rw q at last
 
 -- the part that is lent is the channel's below its end
-pub part-taken : {channels block c a : ℕ} (ends bap : List ℕ) → PartStart channels block c a
-    → take (a + getD ends c 0 - a) (drop a bap) ≡ partBaps channels ends bap block c
+pub part-taken : {block c n a end : ℕ} (settings : Settings) (bap : List ℕ) → n ≡ channels settings → end ≡ endAt settings c → PartStart n block c a
+    → take (a + end - a) (drop a bap) ≡ partBaps settings bap block c
 unfolding partBaps
-part-taken {channels} {block} {c} {a} ends bap p =
-    let k : a + getD ends c 0 - a ≡ getD ends c 0 = omega arith in
-    rw (k, p .is)
+part-taken {block} {c} {n} {a} {end} settings bap many e p =
+    let k : a + end - a ≡ endAt settings c = omega (arith, e) in
+    rw (k, p .is, many)
 
-module _ {channels block c a : ℕ} {ends : List ℕ} (bap : List ℕ) (p : PartStart channels block c a) (e : Ends channels ends) (h : c < channels) where
-  pub part-fits : length bap ≡ bufferLength channels → a + getD ends c 0 ≤ length bap
-  part-fits l = omega (arith, p .within, e .end-most c h, l)
+module _ {block c n a end : ℕ} {settings : Settings} (bap : List ℕ) (under : LegalSettings settings) (many : n ≡ channels settings) (e : end ≡ endAt settings c)
+    (p : PartStart n block c a) (h : c < n) where
+  there : c < channels settings
+  there = omega (arith, h, many)
 
-  pub part-length : length (take (a + getD ends c 0 - a) (drop a bap)) ≤ 256
-  part-length = let m = e .end-most c h in rw (length-take, length-drop) (omega arith)
+  pub part-fits : length bap ≡ bufferLength (channels settings) → a + end ≤ length bap
+  part-fits l = omega (arith, p .within, end-bounds under c there, l, e, ap bufferLength many)
 
-  pub part-below : {m : ℕ} → Below m (blockBaps channels ends bap block) → Below m (take (a + getD ends c 0 - a) (drop a bap))
-  unfolding blockBaps
-  part-below b = rw (part-taken ends bap p) (below-joined (partBaps channels ends bap block) channels c b h)
+  pub part-length : length (take (a + end - a) (drop a bap)) ≤ 256
+  part-length = let m = end-bounds under c there in rw (length-take, length-drop) (omega (arith, e))
+
+-- the baps of a channel's part are among those of its block
+pub part-below : {m : ℕ} (settings : Settings) (bap : List ℕ) (block c : ℕ) → Below m (blockBaps settings bap block) → c < channels settings → Below m (partBaps settings bap block c)
+unfolding blockBaps
+part-below settings bap block c b h = below-joined (partBaps settings bap block) (channels settings) c b h
 
 -- ---- the test
 
@@ -71,10 +80,10 @@ pub fits-more : (f : ℕ → List ℕ) (i : ℕ) (l : List ℕ) (s t : Bool) →
     → (s && t) ≡ bapsFit (joined (i + 1) f)
 fits-more f i l s t hs ht e = rw (joined-more i f, hs, ht, e) (sym (fits-append (joined i f) (f i)))
 
-pub fits-block : (channels block : ℕ) (ends bap : List ℕ) {s : Bool} (i : ℕ) → s ≡ bapsFit (joined i (partBaps channels ends bap block)) → i ≡ channels
-    → s ≡ bapsFit (blockBaps channels ends bap block)
+pub fits-block : (settings : Settings) (bap : List ℕ) (block : ℕ) {s : Bool} (i : ℕ) → s ≡ bapsFit (joined i (partBaps settings bap block)) → i ≡ channels settings
+    → s ≡ bapsFit (blockBaps settings bap block)
 unfolding blockBaps
-fits-block channels block ends bap i h e = h ∙ ap (λ (n : ℕ). bapsFit (joined n (partBaps channels ends bap block))) e
+fits-block settings bap block i h e = h ∙ ap (λ (n : ℕ). bapsFit (joined n (partBaps settings bap block))) e
 
 -- ---- the count
 
@@ -85,8 +94,8 @@ tally-start f = refl
 pub tally-more : (f : ℕ → List ℕ) (i : ℕ) (l : List ℕ) (n r : ℕ) → n ≡ tallyOf (joined i f) → r ≡ n + tallyOf l → l ≡ f i → r ≡ tallyOf (joined (i + 1) f)
 tally-more f i l n r h q e = rw (joined-more i f, q, h, e) (sym (tally-append (joined i f) (f i)))
 
-pub tally-block : {channels : ℕ} {ends : List ℕ} (bap : List ℕ) (block n r i : ℕ) → Ends channels ends → Below 16 (blockBaps channels ends bap block)
-    → n ≡ tallyOf (joined i (partBaps channels ends bap block)) → i ≡ channels → r ≡ tallyBits n → r ≡ bitCount (blockBaps channels ends bap block)
-tally-block {channels} {ends} bap block n r i e b h q d =
-    let whole : n ≡ tallyOf (blockBaps channels ends bap block) = unfold blockBaps in h ∙ ap (λ (k : ℕ). tallyOf (joined k (partBaps channels ends bap block))) q in
-    d ∙ ap tallyBits whole ∙ tally-bits b (omega (arith, block-most bap block e, e .channels-most))
+pub tally-block : {settings : Settings} (bap : List ℕ) (block n r i : ℕ) → LegalSettings settings → Below 16 (blockBaps settings bap block)
+    → n ≡ tallyOf (joined i (partBaps settings bap block)) → i ≡ channels settings → r ≡ tallyBits n → r ≡ bitCount (blockBaps settings bap block)
+tally-block {settings} bap block n r i under b h q d =
+    let whole : n ≡ tallyOf (blockBaps settings bap block) = unfold blockBaps in h ∙ ap (λ (k : ℕ). tallyOf (joined k (partBaps settings bap block))) q in
+    d ∙ ap tallyBits whole ∙ tally-bits b (omega (arith, block-most bap block under, channels-bounds under))

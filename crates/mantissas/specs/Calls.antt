@@ -4,7 +4,7 @@ use mathlib.Core.List.{List}
 use Prim.Native.Nat.{ℕ, _-_}
 use lib.Dec.{eqb, leb, ltb}
 use lib.ListN.{length, replicate}
-use Rattle.bits.specs.Answer.{gives, turnedBack}
+use Rattle.bits.specs.Answer.{gives, refused}
 use Rattle.bits.specs.Bytes.{bytesFor}
 use Rattle.bits.specs.Reading.{Outcome, ok, fault}
 use Rattle.bits.specs.Refusal as refusal
@@ -22,15 +22,15 @@ oneLength m n = eqb m n && leb m mostEntries
 -- `write_mantissa_stream` into an output of `room` bytes: 10, 5, 6, or the number of bits
 unfoldable pub writeAnswer : ℕ → List ℕ → List ℕ → Answer
 writeAnswer room bs cs =
-    cond (not (oneLength (length bs) (length cs))) (turnedBack refusal.wrongLength)
-    (cond (not (coded bs cs)) (turnedBack refusal.badCode)
-    (cond (ltb room (bytesFor (length (stream bs cs)))) (turnedBack refusal.noRoom)
+    cond (not (oneLength (length bs) (length cs))) (refused refusal.wrongLength)
+    (cond (not (coded bs cs)) (refused refusal.badCode)
+    (cond (ltb room (bytesFor (length (stream bs cs)))) (refused refusal.noRoom)
     (gives (length (stream bs cs)))))
 
 -- the answer to a reading of `long` bits: how many were read, or the fault's number, 7 or 9
 unfoldable pub readOf : ℕ → Outcome (List ℕ) → Answer
 readOf long (ok cs rest) = gives (long - length rest)
-readOf long (fault k) = turnedBack k
+readOf long (fault k) = refused k
 
 -- the output of a reading, which a fault leaves with n entries of 0
 unfoldable pub codesOf : ℕ → Outcome (List ℕ) → List ℕ
@@ -40,8 +40,8 @@ codesOf n (fault k) = replicate n 0
 -- `read_mantissa_stream` of these bits into n codes: 10, 5, then 7 and 9 as met, or the number of bits read
 unfoldable pub readAnswer : List Bool → List ℕ → ℕ → Answer
 readAnswer bits bs n =
-    cond (not (oneLength (length bs) n)) (turnedBack refusal.wrongLength)
-    (cond (not (bapsFit bs)) (turnedBack refusal.badCode)
+    cond (not (oneLength (length bs) n)) (refused refusal.wrongLength)
+    (cond (not (bapsFit bs)) (refused refusal.badCode)
     (readOf (length bits) (readStream bs bits)))
 
 -- and what it leaves in the codes: 10 and 5 leave them as they were

@@ -1,5 +1,5 @@
 -- Contracts of the inner functions: baps and codes in their ranges, the value of the group that begins at a bin, what reading a group's
--- field gives, what a reader's state holds, and what is asked of a sheet's ends.
+-- field gives, and what a reader's state holds.
 use mathlib.Core.Path.{_≡_}
 use mathlib.Core.Bool.{Bool}
 use mathlib.Core.List.{List, [], _∷_}
@@ -41,8 +41,3 @@ pub record GroupRead (b : ℕ) (bits : List Bool) (pos : ℕ) (r : Answer) : Typ
 -- less than a group is still to come of each bap
 pub record Started (st : List ℕ) : Type 0 where
   pub less : (k : ℕ) → k < 16 → getD st k 0 < size k
-
--- what the count of blocks asks of the number of channels and their ends; an accepted sheet has it
-pub record Ends (channels : ℕ) (ends : List ℕ) : Type 0 where
-  pub channels-most : channels ≤ 6
-  pub end-most : (c : ℕ) → c < channels → getD ends c 0 ≤ 256

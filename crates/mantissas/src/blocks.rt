@@ -5,14 +5,18 @@ use crate::count::weigh;
 use bits::refusal::ACCEPTED;
 use bits::refusal::BAD_CODE;
 use bits::refusal::WRONG_LENGTH;
+use sheet::Settings;
 ghost use mathlib.Core.Path.{_≡_};
-ghost use Prim.Native.Nat.{_<_};
+ghost use Prim.Native.Nat.{_*_, _^_, _≤_, _<_};
 ghost use lib.ListN.{length};
 ghost use Rattle.bits.specs.Parts.{joined, tab};
-ghost use Rattle.mantissas.specs.Blocks.{blockBaps, noBits, blocksAnswer, totalAnswer};
-ghost use Rattle.mantissas.specs.Inner.{Ends, Below};
+ghost use Rattle.mantissas.specs.Blocks.{partBaps, blockBaps, noBits, blocksAnswer, totalAnswer};
+ghost use Rattle.mantissas.specs.Inner.{Below};
 ghost use Rattle.mantissas.specs.Stream.{bapsFit, bitCount};
+ghost use Rattle.mantissas.specs.Tally.{tallyOf};
 ghost use Rattle.sheet.specs.Layout.{bufferLength};
+ghost use Rattle.sheet.specs.LegalSettings.{LegalSettings};
+ghost use Rattle.sheet.specs.Settings.{channels};
 
 // The refusal's number, and the mantissa bits of each block.
 pub struct MantissaBits {
@@ -31,75 +35,88 @@ fn no_bits(number: u32) -> MantissaBits
 }
 
 // Whether every bap of a block below the ends is at most 15.
-fn check_block(bap: &[u8], channels: usize, ends: [usize; 6], block: usize) -> bool
-    requires { ⌜ Ends channels ends ⌝ }
-    requires { ⌜ (block < 6) × (length (now bap) ≡ bufferLength channels) ⌝ }
-    ensures { λ r. ⌜ r ≡ bapsFit (blockBaps channels ends (now (bap .entry)) block) ⌝ }
+fn check_block(bap: &[u8], settings: Settings, block: usize) -> bool
+    requires { ⌜ LegalSettings settings ⌝ }
+    requires { ⌜ (block < 6) × (length (now bap) ≡ bufferLength (channels settings)) ⌝ }
+    ensures { λ r. ⌜ r ≡ bapsFit (blockBaps settings (now (bap .entry)) block) ⌝ }
 {
     let mut all = true;
-    for c in 0..channels {
-        let a = sheet::part_start(channels, block, c);
-        let e = a + ends[c];
+    let n = sheet::channels(settings);
+    for c in 0..n {
+        let a = sheet::part_start(n, block, c);
+        let e = a + sheet::end_at(settings, c);
         all = all & check_baps(&bap[a..e]);
     }
     all
 }
 
 // The same of all six blocks.
-fn check_blocks(bap: &[u8], channels: usize, ends: [usize; 6]) -> bool
-    requires { ⌜ Ends channels ends ⌝ }
-    requires { ⌜ length (now bap) ≡ bufferLength channels ⌝ }
-    ensures { λ r. ⌜ r ≡ bapsFit (joined 6 (blockBaps channels ends (now (bap .entry)))) ⌝ }
+fn check_blocks(bap: &[u8], settings: Settings) -> bool
+    requires { ⌜ LegalSettings settings ⌝ }
+    requires { ⌜ length (now bap) ≡ bufferLength (channels settings) ⌝ }
+    ensures { λ r. ⌜ r ≡ bapsFit (joined 6 (blockBaps settings (now (bap .entry)))) ⌝ }
 {
     let mut all = true;
     for block in 0..6 {
-        all = all & check_block(bap, channels, ends, block);
+        all = all & check_block(bap, settings, block);
     }
     all
 }
 
-// The mantissa bits of a block: groups run on from channel to channel, so one tally goes over them all.
-pub fn count_block(bap: &[u8], channels: usize, ends: [usize; 6], block: usize) -> u32
-    requires { ⌜ Ends channels ends ⌝ }
-    requires { ⌜ (block < 6) × (length (now bap) ≡ bufferLength channels) ⌝ }
-    requires { ⌜ Below 16 (blockBaps channels ends (now bap) block) ⌝ }
-    ensures { λ r. ⌜ r ≡ bitCount (blockBaps channels ends (now (bap .entry)) block) ⌝ }
+// The tally of one channel's baps in a block.
+pub fn tally_part(bap: &[u8], settings: Settings, block: usize, c: usize) -> u64
+    requires { ⌜ LegalSettings settings ⌝ }
+    requires { ⌜ (block < 6) × (c < channels settings) × (length (now bap) ≡ bufferLength (channels settings)) ⌝ }
+    requires { ⌜ Below 16 (partBaps settings (now bap) block c) ⌝ }
+    ensures { λ r. ⌜ (r ≡ tallyOf (partBaps settings (now (bap .entry)) block c)) × (r ≤ 2 ^ 38 * 256) ⌝ }
 {
+    let n = sheet::channels(settings);
+    let a = sheet::part_start(n, block, c);
+    let e = a + sheet::end_at(settings, c);
+    weigh(&bap[a..e], 0)
+}
+
+// The mantissa bits of a block: groups run on from channel to channel, so the tallies of them all are added up.
+pub fn count_block(bap: &[u8], settings: Settings, block: usize) -> u32
+    requires { ⌜ LegalSettings settings ⌝ }
+    requires { ⌜ (block < 6) × (length (now bap) ≡ bufferLength (channels settings)) ⌝ }
+    requires { ⌜ Below 16 (blockBaps settings (now bap) block) ⌝ }
+    ensures { λ r. ⌜ r ≡ bitCount (blockBaps settings (now (bap .entry)) block) ⌝ }
+{
+    let n = sheet::channels(settings);
     let mut tally: u64 = 0;
-    for c in 0..channels {
-        let a = sheet::part_start(channels, block, c);
-        let e = a + ends[c];
-        tally = weigh(&bap[a..e], tally);
+    for c in 0..n {
+        tally += tally_part(bap, settings, block, c);
     }
     bits_of(tally)
 }
 
 // Groups never cross blocks.
-fn count_blocks(bap: &[u8], channels: usize, ends: [usize; 6]) -> [u32; 6]
-    requires { ⌜ Ends channels ends ⌝ }
-    requires { ⌜ length (now bap) ≡ bufferLength channels ⌝ }
-    requires { ⌜ Below 16 (joined 6 (blockBaps channels ends (now bap))) ⌝ }
-    ensures { λ r. ⌜ r ≡ tab 6 (λ block. bitCount (blockBaps channels ends (now (bap .entry)) block)) ⌝ }
+fn count_blocks(bap: &[u8], settings: Settings) -> [u32; 6]
+    requires { ⌜ LegalSettings settings ⌝ }
+    requires { ⌜ length (now bap) ≡ bufferLength (channels settings) ⌝ }
+    requires { ⌜ Below 16 (joined 6 (blockBaps settings (now bap))) ⌝ }
+    ensures { λ r. ⌜ r ≡ tab 6 (λ block. bitCount (blockBaps settings (now (bap .entry)) block)) ⌝ }
 {
     let mut counts = [0u32; 6];
     for block in 0..6 {
-        counts[block] = count_block(bap, channels, ends, block);
+        counts[block] = count_block(bap, settings, block);
     }
     counts
 }
 
 // The refusals of the buffer, 10 and 5, or the counts.
-fn bits_of_blocks(bap: &[u8], channels: usize, ends: [usize; 6]) -> MantissaBits
-    requires { ⌜ Ends channels ends ⌝ }
-    ensures { λ r. ⌜ r ≡ blocksAnswer channels ends (now (bap .entry)) ⌝ }
+fn bits_of_blocks(bap: &[u8], settings: Settings) -> MantissaBits
+    requires { ⌜ LegalSettings settings ⌝ }
+    ensures { λ r. ⌜ r ≡ blocksAnswer settings (now (bap .entry)) ⌝ }
 {
-    if bap.len() != sheet::buffer_length(channels) {
+    if bap.len() != sheet::buffer_length(sheet::channels(settings)) {
         return no_bits(WRONG_LENGTH);
     }
-    if !check_blocks(bap, channels, ends) {
+    if !check_blocks(bap, settings) {
         return no_bits(BAD_CODE);
     }
-    let counts = count_blocks(bap, channels, ends);
+    let counts = count_blocks(bap, settings);
     MantissaBits {
         refusal: ACCEPTED,
         counts,
@@ -114,7 +131,5 @@ pub fn mantissa_bits_total_ends(sheet: &[u8], bap: &[u8]) -> MantissaBits
     if number != ACCEPTED {
         return no_bits(number);
     }
-    let channels = sheet::channels_of(sheet::common_of(sheet));
-    let ends = sheet::ends_of(sheet);
-    bits_of_blocks(bap, channels, ends)
+    bits_of_blocks(bap, sheet::settings_of(sheet))
 }

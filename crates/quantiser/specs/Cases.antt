@@ -4,7 +4,7 @@ use mathlib.Core.Bool.{true, false}
 use mathlib.Core.List.{[], _∷_, map}
 use lib.IntN.{pos, negsuc}
 use lib.Ieee.{nan, inf, fin, ofBits, mul, lt, sub, neg, ofInt, round}
-use Rattle.bits.specs.Answer.{turnedBack}
+use Rattle.bits.specs.Answer.{refused}
 use Rattle.bits.specs.Refusal as refusal
 use Rattle.tables.specs.Entry.{entry}
 use Rattle.tables.specs.Quantizer.{levels, levelCount, quantizationBits}
@@ -22,6 +22,6 @@ own-levels = refl
 
 -- what is not finite is refused as such, before an exponent and a bap that are not legal
 pub not-finite : map (λ x. quantised x 25 16) (inf false ∷ inf true ∷ nan ∷ [])
-    ≡ turnedBack refusal.notFinite ∷ turnedBack refusal.notFinite ∷ turnedBack refusal.notFinite ∷ []
+    ≡ refused refusal.notFinite ∷ refused refusal.notFinite ∷ refused refusal.notFinite ∷ []
 unfolding quantised
 not-finite = refl

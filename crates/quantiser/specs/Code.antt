@@ -4,7 +4,7 @@ use Prim.Native.Nat.{ℕ}
 use lib.Dec.{eqb, ltb}
 use lib.Ieee.{Float}
 use lib.Ieee.Scale.{finite}
-use Rattle.bits.specs.Answer.{gives, turnedBack}
+use Rattle.bits.specs.Answer.{gives, refused}
 use Rattle.bits.specs.Refusal as refusal
 use Rattle.bits.specs.declared.answer.Answer.{Answer}
 use Rattle.tables.specs.Entry.{entry}
@@ -24,7 +24,7 @@ codeOf coeff exponent bap =
 -- what `quantise_mantissa` answers, the refusals in the order of document 01, "When a call is turned back": 3, 4, 5
 unfoldable pub quantised : Float → ℕ → ℕ → Answer
 quantised coeff exponent bap =
-    cond (not (finite coeff)) (turnedBack refusal.notFinite)
-    (cond (ltb 24 exponent) (turnedBack refusal.badExponent)
-    (cond (ltb 15 bap) (turnedBack refusal.badCode)
+    cond (not (finite coeff)) (refused refusal.notFinite)
+    (cond (ltb 24 exponent) (refused refusal.badExponent)
+    (cond (ltb 15 bap) (refused refusal.badCode)
     (gives (codeOf coeff exponent bap))))

@@ -13,7 +13,7 @@ use lib.Ieee.Fits.{and-l, and-r}
 use lib.Ieee.Scale.{finite}
 use lib.ListN.{length, getD}
 use lib.Pow.{pow-pos, pow-mono}
-use Rattle.bits.specs.Answer.{gives, turnedBack}
+use Rattle.bits.specs.Answer.{gives, refused}
 use Rattle.bits.specs.Refusal as refusal
 use Rattle.mantissas.specs.Ranges.{levels as codeCount}
 use Rattle.mantissas.specs.RangesLaws.{row}
@@ -148,15 +148,15 @@ code-nearest x k b f K h l =
 -- ---- the answer, by what was found of the input
 
 module _ (x : Float) (k b : ℕ) where
-  pub not-finite : finite x ≡ false → turnedBack refusal.notFinite ≡ quantised x k b
+  pub not-finite : finite x ≡ false → refused refusal.notFinite ≡ quantised x k b
   unfolding quantised
   not-finite f = rw f
 
-  pub large-exponent : finite x ≡ true → 24 < k → turnedBack refusal.badExponent ≡ quantised x k b
+  pub large-exponent : finite x ≡ true → 24 < k → refused refusal.badExponent ≡ quantised x k b
   unfolding quantised
   large-exponent f h = rw (f, lt-ltb 24 k h)
 
-  pub large-bap : finite x ≡ true → k ≤ 24 → 15 < b → turnedBack refusal.badCode ≡ quantised x k b
+  pub large-bap : finite x ≡ true → k ≤ 24 → 15 < b → refused refusal.badCode ≡ quantised x k b
   unfolding quantised
   large-bap f h l = rw (f, le-ltb 24 k h, lt-ltb 15 b l)
 
@@ -170,7 +170,7 @@ unfolding quantised
 quantised-most x k b = by-tests (finite x) (ltb 24 k) (ltb 15 b) refl
   where
     by-tests : (f g h : Bool) → ltb 15 b ≡ h
-        → cond (not f) (turnedBack refusal.notFinite) (cond g (turnedBack refusal.badExponent) (cond h (turnedBack refusal.badCode) (gives (codeOf x k b)))) .value < 65536
+        → cond (not f) (refused refusal.notFinite) (cond g (refused refusal.badExponent) (cond h (refused refusal.badCode) (gives (codeOf x k b)))) .value < 65536
     by-tests true true h e = omega arith
     by-tests true false true e = omega arith
     by-tests true false false e = omega (arith, code-in-range x k b (ltb-false 15 b e), row b (omega (arith, ltb-false 15 b e)) .levels-most)

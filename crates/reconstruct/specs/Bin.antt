@@ -33,12 +33,12 @@ levelOf (Level x) = x
 abbrev pub gives : Reconstructed → BinAnswer
 gives bin = record { refusal = refusal.accepted; bin = bin }
 
-abbrev pub turnedBack : ℕ → BinAnswer
-turnedBack k = record { refusal = k; bin = Silent }
+abbrev pub refused : ℕ → BinAnswer
+refused k = record { refusal = k; bin = Silent }
 
 -- 4, then 5: "code range faults keep number 5"
 unfoldable pub binAnswer : ℕ → ℕ → ℕ → BinAnswer
 binAnswer exponent bap code =
-    cond (ltb 24 exponent) (turnedBack refusal.badExponent)
-    (cond (ltb 15 bap) (turnedBack refusal.badCode)
-    (cond (ltb code (levels bap)) (gives (reconstructed exponent bap code)) (turnedBack refusal.badCode)))
+    cond (ltb 24 exponent) (refused refusal.badExponent)
+    (cond (ltb 15 bap) (refused refusal.badCode)
+    (cond (ltb code (levels bap)) (gives (reconstructed exponent bap code)) (refused refusal.badCode)))

@@ -17,7 +17,7 @@ use Rattle.tables.specs.Quantizer.{levelCount, levelCounts, quantizationBits}
 use Rattle.mantissas.specs.Ranges.{levels}
 use Rattle.mantissas.specs.RangesLaws.{row}
 use Rattle.quantiser.specs.CodeLaws as quantiser
-use Rattle.reconstruct.specs.Bin.{reconstructed, flagOf, levelOf, gives, turnedBack, binAnswer}
+use Rattle.reconstruct.specs.Bin.{reconstructed, flagOf, levelOf, gives, refused, binAnswer}
 use Rattle.reconstruct.specs.Inner.{valueOf, symmetricOf, asymmetricOf}
 use Rattle.reconstruct.specs.QuotientLaws.{quotient-is, round-neg, unscaled-zero}
 use Rattle.reconstruct.specs.Value.{mantissa, unscaled}
@@ -171,15 +171,15 @@ module _ (exponent bap code : ℕ) where
 
   -- ---- the answer: 4, 5, 5, the bin
 
-  pub bin-exponent : 24 < exponent → turnedBack refusal.badExponent ≡ binAnswer exponent bap code
+  pub bin-exponent : 24 < exponent → refused refusal.badExponent ≡ binAnswer exponent bap code
   unfolding binAnswer
   bin-exponent h = rw (lt-ltb 24 exponent h)
 
-  pub bin-bap : exponent ≤ 24 → 15 < bap → turnedBack refusal.badCode ≡ binAnswer exponent bap code
+  pub bin-bap : exponent ≤ 24 → 15 < bap → refused refusal.badCode ≡ binAnswer exponent bap code
   unfolding binAnswer
   bin-bap k h = rw (le-ltb 24 exponent k, lt-ltb 15 bap h)
 
-  pub bin-code : exponent ≤ 24 → bap ≤ 15 → levels bap ≤ code → turnedBack refusal.badCode ≡ binAnswer exponent bap code
+  pub bin-code : exponent ≤ 24 → bap ≤ 15 → levels bap ≤ code → refused refusal.badCode ≡ binAnswer exponent bap code
   unfolding binAnswer
   bin-code k b h = rw (le-ltb 24 exponent k, le-ltb 15 bap b, le-ltb code (levels bap) h)
 

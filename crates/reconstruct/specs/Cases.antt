@@ -3,12 +3,12 @@ use mathlib.Core.Path.{_≡_, refl}
 use mathlib.Core.Bool.{true, false}
 use mathlib.Core.List.{[], _∷_, map}
 use lib.IntN.{pos, negsuc}
-use lib.Ieee.{fin, binary32, round, div, ofInt, ofBits}
+use lib.Ieee.{fin, binary32, div, ofInt, ofBits}
 use Rattle.bits.specs.Refusal as refusal
 use Rattle.mantissas.specs.Ranges.{levels}
 use Rattle.tables.specs.Entry.{entry}
 use Rattle.tables.specs.Quantizer.{levelCount, levelCounts, quantizationBits}
-use Rattle.reconstruct.specs.Bin.{reconstructed, turnedBack, binAnswer}
+use Rattle.reconstruct.specs.Bin.{reconstructed, refused, binAnswer}
 use Rattle.reconstruct.specs.declared.mantissa.Reconstructed.the-variants.{Silent, Level}
 
 -- bap 1 at exponent 0: -2/3, 0 and 2/3 as f32
@@ -29,6 +29,6 @@ smallest = refl
 
 -- 4 before 5; a bap above 15; the first code past bap 0 and bap 6
 pub refusals : binAnswer 25 16 0 ∷ binAnswer 24 16 0 ∷ binAnswer 24 0 1 ∷ binAnswer 24 6 32 ∷ []
-    ≡ turnedBack refusal.badExponent ∷ turnedBack refusal.badCode ∷ turnedBack refusal.badCode ∷ turnedBack refusal.badCode ∷ []
+    ≡ refused refusal.badExponent ∷ refused refusal.badCode ∷ refused refusal.badCode ∷ refused refusal.badCode ∷ []
 unfolding binAnswer levels levelCount levelCounts entry
 refusals = refl

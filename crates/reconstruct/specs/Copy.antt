@@ -8,11 +8,13 @@ use lib.Ieee.{Float}
 use lib.ListN.{length, getD, replicate}
 use Rattle.bits.specs.Parts.{joined, piece, tab}
 use Rattle.bits.specs.Refusal as refusal
+use Rattle.sheet.specs.Sheet.{checkOf}
+use Rattle.sheet.specs.Settings.{settingsOf, channels, endAt}
+use Rattle.sheet.specs.declared.settings.Settings.{Settings}
 use Rattle.frame.specs.Answers.{fits}
 use Rattle.frame.specs.Body.{bapPart}
-use Rattle.frame.specs.Layout.{channels, endAt, rowOf}
+use Rattle.frame.specs.Layout.{rowOf}
 use Rattle.frame.specs.Legal.{expsLegal, codesLegal}
-use Rattle.sheet.specs.Sheet.{checkOf}
 use Rattle.reconstruct.specs.Bin.{reconstructed, flagOf, levelOf}
 use Rattle.reconstruct.specs.declared.mantissa.Reconstructed.{Reconstructed}
 use Rattle.reconstruct.specs.declared.mantissa.Reconstructed.the-variants.{Silent}
@@ -26,20 +28,20 @@ unfoldable pub copyPart : ℕ → List ℕ → List ℕ → List ℕ → List Re
 copyPart end exps bap codes = copyBins end exps bap codes ++ replicate (256 - end) Silent
 
 -- a block: each channel's part, at the allocation of its exponents
-unfoldable pub copyRow : List ℕ → List ℕ → List ℕ → List Reconstructed
-copyRow sheet exps codes =
-    joined (channels sheet) (λ c. copyPart (endAt sheet c) (piece 256 c exps) (bapPart sheet c (piece 256 c exps)) (piece 256 c codes))
+unfoldable pub copyRow : Settings → List ℕ → List ℕ → List Reconstructed
+copyRow settings exps codes =
+    joined (channels settings) (λ c. copyPart (endAt settings c) (piece 256 c exps) (bapPart settings c (piece 256 c exps)) (piece 256 c codes))
 
 -- the frame: six blocks
-unfoldable pub copyOf : List ℕ → List ℕ → List ℕ → List Reconstructed
-copyOf sheet exps codes = joined 6 (λ b. copyRow sheet (rowOf sheet b exps) (rowOf sheet b codes))
+unfoldable pub copyOf : Settings → List ℕ → List ℕ → List Reconstructed
+copyOf settings exps codes = joined 6 (λ b. copyRow settings (rowOf settings b exps) (rowOf settings b codes))
 
 -- the two buffers
-unfoldable pub flagsOf : List ℕ → List ℕ → List ℕ → List ℕ
-flagsOf sheet exps codes = map flagOf (copyOf sheet exps codes)
+unfoldable pub flagsOf : Settings → List ℕ → List ℕ → List ℕ
+flagsOf settings exps codes = map flagOf (copyOf settings exps codes)
 
-unfoldable pub levelsOf : List ℕ → List ℕ → List ℕ → List Float
-levelsOf sheet exps codes = map levelOf (copyOf sheet exps codes)
+unfoldable pub levelsOf : Settings → List ℕ → List ℕ → List Float
+levelsOf settings exps codes = map levelOf (copyOf settings exps codes)
 
 -- ---- the answer: 1, 2, 11, 10, 4, 5, as `write_body`
 
@@ -48,15 +50,19 @@ abbrev pub must : Bool → ℕ → ℕ → ℕ
 must test number rest = cond test rest number
 
 -- the four buffers have the sheet's length; `flags` and `levels` are the lengths of the outputs
-abbrev pub allFit : List ℕ → List ℕ → List ℕ → ℕ → ℕ → Bool
-allFit sheet exps codes flags levels = fits sheet (length exps) && (fits sheet (length codes) && (fits sheet flags && fits sheet levels))
+abbrev pub allFit : Settings → List ℕ → List ℕ → ℕ → ℕ → Bool
+allFit settings exps codes flags levels = fits settings (length exps) && (fits settings (length codes) && (fits settings flags && fits settings levels))
+
+-- under settings
+unfoldable pub copyUnder : Settings → List ℕ → List ℕ → ℕ → ℕ → ℕ
+copyUnder settings exps codes flags levels =
+    must (allFit settings exps codes flags levels) refusal.wrongLength (
+    must (expsLegal settings exps) refusal.badExponent (
+    must (codesLegal settings exps codes) refusal.badCode refusal.accepted))
 
 unfoldable pub copyNumber : List ℕ → List ℕ → List ℕ → ℕ → ℕ → ℕ
 copyNumber sheet exps codes flags levels =
-    must (eqb (checkOf sheet) refusal.accepted) (checkOf sheet) (
-    must (allFit sheet exps codes flags levels) refusal.wrongLength (
-    must (expsLegal sheet exps) refusal.badExponent (
-    must (codesLegal sheet exps codes) refusal.badCode refusal.accepted)))
+    must (eqb (checkOf sheet) refusal.accepted) (checkOf sheet) (copyUnder (settingsOf sheet) exps codes flags levels)
 
 -- an output afterwards: as it was where the call was refused
 unfoldable pub copyLeft : {A : Type 0} → ℕ → List A → List A → List A

@@ -1,33 +1,30 @@
 -- The copy as the code makes it, bin by bin, part by part and block by block; and what each part of a legal frame has.
 use Prim.Native.Nat.{ℕ, zero, suc, _+_, _-_, _*_, _≤_, _<_}
-use mathlib.Core.Path.{_≡_, refl, sym, ap, ap₂, _∙_, subst}
-use mathlib.Core.Bool.{true}
+use mathlib.Core.Path.{_≡_, refl, sym, ap, ap₂, _∙_}
 use mathlib.Core.List.{List, [], _∷_, _++_, map}
 use native.Mathlib.Omega.{arith}
-use lib.Ieee.{Float}
-use lib.ListN.{length, take, drop, getD, replicate, length-take}
+use lib.ListN.{length, take, drop, getD, replicate}
 use lib.Seq.{getD-take, take-take, length-take-le}
 use Rattle.bits.specs.Parts.{joined, piece, tab}
-use Rattle.bits.specs.PartsLaws.{joined-cong, tab-cong, within}
-use Rattle.bits.specs.Refusal as refusal
+use Rattle.bits.specs.PartsLaws.{joined-cong, tab-cong}
 use Rattle.mantissas.specs.CodedLaws.{coded-take, coded-drop, coded-length}
 use Rattle.mantissas.specs.Inner.{LevelTable, Coded, empty, bin}
 use Rattle.mantissas.specs.Ranges.{levels}
 use Rattle.tables.specs.Entry.{entry}
-use Rattle.sheet.specs.Sheet.{checkOf}
-use Rattle.sheet.specs.declared.record.BlockSet.{BlockSet}
+use Rattle.sheet.specs.Settings.{channels, endAt}
+use Rattle.sheet.specs.LegalSettings.{ChannelCount, ChannelEnd, LegalSettings}
+use Rattle.sheet.specs.declared.settings.Settings.{Settings}
 use Rattle.frame.specs.Body.{bapPart, bapRow}
-use Rattle.frame.specs.Layout.{channels, endAt, rowOf, cleanRow, SameBelowEnds}
+use Rattle.frame.specs.Layout.{rowOf, cleanRow, SameBelowEnds}
 use Rattle.frame.specs.LayoutLaws.{length-part, length-row, piece-bap, bapPart-same, piece-clean, take-clean, end-inside}
 use Rattle.frame.specs.Legal.{LegalFrame}
 use Rattle.frame.specs.LegalLaws.{legal-codes}
-use Rattle.frame.specs.Under.{Under, channel-known, held-end, held-below, held-channel}
-use Rattle.frame.specs.declared.track.Track.{Track}
+use Rattle.frame.specs.Under.{channel-known}
 use Rattle.frame_rows.specs.LegalLaws.{legal-low}
 use Rattle.frame_rows.specs.Rows.{bapsOf}
 use Rattle.frame_rows.specs.RowsLaws.{row-baps}
-use Rattle.reconstruct.specs.Bin.{reconstructed, flagOf, levelOf}
-use Rattle.reconstruct.specs.Copy.{copyBins, copyPart, copyRow, copyOf, flagsOf, levelsOf}
+use Rattle.reconstruct.specs.Bin.{reconstructed}
+use Rattle.reconstruct.specs.Copy.{copyBins, copyPart, copyRow, copyOf}
 use Rattle.reconstruct.specs.Inner.{LegalBins, LegalRow}
 use Rattle.reconstruct.specs.declared.mantissa.Reconstructed.{Reconstructed}
 use Rattle.reconstruct.specs.declared.mantissa.Reconstructed.the-variants.{Silent}
@@ -81,16 +78,13 @@ unfolding piece
 below-lent c end l h =
     ap (λ (k : ℕ). take k (drop (256 * c) l)) (let e : 256 * c + end - 256 * c ≡ end = omega arith in e) ∙ sym (take-take end 256 (drop (256 * c) l) h)
 
-module _ {sheet : List ℕ} {track : Track} {strategies : List (List BlockSet)} (u : Under sheet track strategies) (c : ℕ) (h : c < track .channels) where
-  end-held : getD (track .ends) c 0 ≤ 256
-  end-held = omega (arith, held-end u c, held-channel u c h .end-most)
-
-  pub part-lent : (l : List ℕ) → take (256 * c + getD (track .ends) c 0 - 256 * c) (drop (256 * c) l) ≡ take (endAt sheet c) (piece 256 c l)
-  part-lent l = below-lent c (getD (track .ends) c 0) l end-held ∙ ap (λ (n : ℕ). take n (piece 256 c l)) (held-end u c)
+module _ {settings : Settings} {n c end : ℕ} (many : ChannelCount settings n) (e : ChannelEnd settings c end) (h : c < n) where
+  pub part-lent : (l : List ℕ) → take (256 * c + end - 256 * c) (drop (256 * c) l) ≡ take (endAt settings c) (piece 256 c l)
+  part-lent l = below-lent c end l (omega (arith, e .most)) ∙ ap (λ (k : ℕ). take k (piece 256 c l)) (e .is)
 
   -- it lies within its row
-  pub part-room : (l : List ℕ) → length l ≡ 256 * channels sheet → 256 * c + getD (track .ends) c 0 ≤ length l
-  part-room l n = omega (arith, end-held, within 256 c (channels sheet) (held-below u c h))
+  pub part-room : (l : List ℕ) → length l ≡ 256 * channels settings → 256 * c + end ≤ length l
+  part-room l long = omega (arith, e .most, many .is)
 
 -- a code among codes in range
 pub coded-entry : {bs cs : List ℕ} → Coded bs cs → (i : ℕ) → i < length bs → (getD bs i 0 < 16) × (getD cs i 0 < levels (getD bs i 0))
@@ -106,32 +100,32 @@ count-listed table t b h = t .1 b h
 -- ---- the parts of a block
 
 -- the part of channel c
-abbrev pub rowPart : List ℕ → List ℕ → List ℕ → ℕ → List Reconstructed
-rowPart sheet exps codes c = copyPart (endAt sheet c) (piece 256 c exps) (bapPart sheet c (piece 256 c exps)) (piece 256 c codes)
+abbrev pub rowPart : Settings → List ℕ → List ℕ → ℕ → List Reconstructed
+rowPart settings exps codes c = copyPart (endAt settings c) (piece 256 c exps) (bapPart settings c (piece 256 c exps)) (piece 256 c codes)
 
-pub row-made : {A : Type 0} (f : Reconstructed → A) (sheet exps codes : List ℕ) (l : List A) → l ≡ joined (channels sheet) (λ c. map f (rowPart sheet exps codes c))
-    → l ≡ map f (copyRow sheet exps codes)
+pub row-made : {A : Type 0} (f : Reconstructed → A) (settings : Settings) (exps codes : List ℕ) (l : List A) → l ≡ joined (channels settings) (λ c. map f (rowPart settings exps codes c))
+    → l ≡ map f (copyRow settings exps codes)
 unfolding copyRow
-row-made f sheet exps codes l e = e ∙ map-joined f (channels sheet) (rowPart sheet exps codes)
+row-made f settings exps codes l e = e ∙ map-joined f (channels settings) (rowPart settings exps codes)
 
-module _ (sheet exps bap codes : List ℕ) (accepted : checkOf sheet ≡ refusal.accepted) (legal : LegalRow sheet exps bap codes) (c : ℕ) (h : c < channels sheet) where
+module _ (settings : Settings) (exps bap codes : List ℕ) (under : LegalSettings settings) (legal : LegalRow settings exps bap codes) (c : ℕ) (h : c < channels settings) where
   abbrev end : ℕ
-  end = endAt sheet c
+  end = endAt settings c
 
   pub end-most : end ≤ 256
-  end-most = omega (arith, channel-known sheet accepted c h .end-most)
+  end-most = omega (arith, channel-known settings under c h .end-most)
 
-  below-long : (l : List ℕ) → length l ≡ 256 * channels sheet → length (take end (piece 256 c l)) ≡ end
-  below-long l n = length-take-le end (piece 256 c l) (omega (arith, end-most, length-part sheet l c n h))
+  below-long : (l : List ℕ) → length l ≡ 256 * channels settings → length (take end (piece 256 c l)) ≡ end
+  below-long l n = length-take-le end (piece 256 c l) (omega (arith, end-most, length-part settings l c n h))
 
   pub length-below : length (take end (piece 256 c exps)) ≡ end
   length-below = below-long exps (legal .exps-long)
 
   part-coded : Coded (take end (piece 256 c bap)) (take end (piece 256 c codes))
   part-coded =
-      let whole : Coded (piece 256 c (bapRow sheet exps)) (piece 256 c (cleanRow sheet codes)) = unfold piece in coded-take 256 (coded-drop (256 * c) (legal .coded)) in
-      let below = rw (piece-clean sheet accepted codes (legal .codes-long) c h) at (coded-take end whole) in
-      rw (legal .is) (rw (take-clean end (piece 256 c codes) (end-inside sheet accepted codes (legal .codes-long) c h)) at below)
+      let whole : Coded (piece 256 c (bapRow settings exps)) (piece 256 c (cleanRow settings codes)) = unfold piece in coded-take 256 (coded-drop (256 * c) (legal .coded)) in
+      let below = rw (piece-clean settings under codes (legal .codes-long) c h) at (coded-take end whole) in
+      rw (legal .is) (rw (take-clean end (piece 256 c codes) (end-inside settings under codes (legal .codes-long) c h)) at below)
 
   pub part-legal : LegalBins (take end (piece 256 c exps)) (take end (piece 256 c bap)) (take end (piece 256 c codes))
   part-legal =
@@ -147,46 +141,46 @@ module _ (sheet exps bap codes : List ℕ) (accepted : checkOf sheet ≡ refusal
   -- what is made of what is lent is the channel's part
   pub row-part : {A : Type 0} (f : Reconstructed → A)
       → map f (copyPart (length (take end (piece 256 c exps))) (take end (piece 256 c exps)) (take end (piece 256 c bap)) (take end (piece 256 c codes)))
-      ≡ map f (rowPart sheet exps codes c)
+      ≡ map f (rowPart settings exps codes c)
   row-part f =
       ap (λ (n : ℕ). map f (copyPart n (take end (piece 256 c exps)) (take end (piece 256 c bap)) (take end (piece 256 c codes)))) length-below
       ∙ ap (map f) (part-below end (piece 256 c exps) (piece 256 c bap) (piece 256 c codes))
-      ∙ ap (λ (l : List ℕ). map f (copyPart end (piece 256 c exps) l (piece 256 c codes))) (ap (piece 256 c) (legal .is) ∙ piece-bap sheet exps c h)
+      ∙ ap (λ (l : List ℕ). map f (copyPart end (piece 256 c exps) l (piece 256 c codes))) (ap (piece 256 c) (legal .is) ∙ piece-bap settings exps c h)
 
 -- ---- the blocks of a frame
 
-pub frame-made : {A : Type 0} (f : Reconstructed → A) (sheet exps codes : List ℕ) (l : List A)
-    → l ≡ joined 6 (λ b. map f (copyRow sheet (rowOf sheet b exps) (rowOf sheet b codes))) → l ≡ map f (copyOf sheet exps codes)
+pub frame-made : {A : Type 0} (f : Reconstructed → A) (settings : Settings) (exps codes : List ℕ) (l : List A)
+    → l ≡ joined 6 (λ b. map f (copyRow settings (rowOf settings b exps) (rowOf settings b codes))) → l ≡ map f (copyOf settings exps codes)
 unfolding copyOf
-frame-made f sheet exps codes l e = e ∙ map-joined f 6 (λ b. copyRow sheet (rowOf sheet b exps) (rowOf sheet b codes))
+frame-made f settings exps codes l e = e ∙ map-joined f 6 (λ b. copyRow settings (rowOf settings b exps) (rowOf settings b codes))
 
-pub row-legal : (sheet exps codes : List ℕ) → checkOf sheet ≡ refusal.accepted → LegalFrame sheet exps codes
-    → length exps ≡ 256 * channels sheet * 6 → length codes ≡ 256 * channels sheet * 6 → (b : ℕ) → b < 6
-    → LegalRow sheet (rowOf sheet b exps) (rowOf sheet b (bapsOf sheet exps)) (rowOf sheet b codes)
-row-legal sheet exps codes accepted legal exps-long codes-long b h =
+pub row-legal : (settings : Settings) (exps codes : List ℕ) → LegalSettings settings → LegalFrame settings exps codes
+    → length exps ≡ 256 * channels settings * 6 → length codes ≡ 256 * channels settings * 6 → (b : ℕ) → b < 6
+    → LegalRow settings (rowOf settings b exps) (rowOf settings b (bapsOf settings exps)) (rowOf settings b codes)
+row-legal settings exps codes under legal exps-long codes-long b h =
     record {
-      exps-long = length-row sheet exps b exps-long h;
-      codes-long = length-row sheet codes b codes-long h;
-      low = legal-low sheet exps accepted exps-long (legal .shaped) b h;
-      is = row-baps sheet exps b h;
-      coded = legal-codes sheet exps codes (legal .coded) b h;
+      exps-long = length-row settings exps b exps-long h;
+      codes-long = length-row settings codes b codes-long h;
+      low = legal-low settings exps under exps-long (legal .shaped) b h;
+      is = row-baps settings exps b h;
+      coded = legal-codes settings exps codes (legal .coded) b h;
     }
 
 -- ---- frames that are the same below each end
 
-part-same : (sheet : List ℕ) (c : ℕ) (exps other codes coded : List ℕ) → take (endAt sheet c) exps ≡ take (endAt sheet c) other → take (endAt sheet c) codes ≡ take (endAt sheet c) coded
-    → copyPart (endAt sheet c) exps (bapPart sheet c exps) codes ≡ copyPart (endAt sheet c) other (bapPart sheet c other) coded
-part-same sheet c exps other codes coded e q =
-    let end = endAt sheet c in
-    sym (part-below end exps (bapPart sheet c exps) codes)
-    ∙ ap₂ (λ (x y : List ℕ). copyPart end x (take end (bapPart sheet c exps)) y) e q
-    ∙ ap (λ (l : List ℕ). copyPart end (take end other) (take end l) (take end coded)) (bapPart-same sheet c exps other e)
-    ∙ part-below end other (bapPart sheet c other) coded
+part-same : (settings : Settings) (c : ℕ) (exps other codes coded : List ℕ) → take (endAt settings c) exps ≡ take (endAt settings c) other → take (endAt settings c) codes ≡ take (endAt settings c) coded
+    → copyPart (endAt settings c) exps (bapPart settings c exps) codes ≡ copyPart (endAt settings c) other (bapPart settings c other) coded
+part-same settings c exps other codes coded e q =
+    let end = endAt settings c in
+    sym (part-below end exps (bapPart settings c exps) codes)
+    ∙ ap₂ (λ (x y : List ℕ). copyPart end x (take end (bapPart settings c exps)) y) e q
+    ∙ ap (λ (l : List ℕ). copyPart end (take end other) (take end l) (take end coded)) (bapPart-same settings c exps other e)
+    ∙ part-below end other (bapPart settings c other) coded
 
 -- sound the same
-pub copy-same : (sheet exps other codes coded : List ℕ) → SameBelowEnds sheet exps other → SameBelowEnds sheet codes coded → copyOf sheet exps codes ≡ copyOf sheet other coded
+pub copy-same : (settings : Settings) (exps other codes coded : List ℕ) → SameBelowEnds settings exps other → SameBelowEnds settings codes coded → copyOf settings exps codes ≡ copyOf settings other coded
 unfolding copyOf copyRow
-copy-same sheet exps other codes coded e q =
+copy-same settings exps other codes coded e q =
     joined-cong _ _ 6
-    (λ b hb. joined-cong _ _ (channels sheet)
-    (λ c hc. part-same sheet c (piece 256 c (rowOf sheet b exps)) (piece 256 c (rowOf sheet b other)) (piece 256 c (rowOf sheet b codes)) (piece 256 c (rowOf sheet b coded)) (e .part b c hb hc) (q .part b c hb hc)))
+    (λ b hb. joined-cong _ _ (channels settings)
+    (λ c hc. part-same settings c (piece 256 c (rowOf settings b exps)) (piece 256 c (rowOf settings b other)) (piece 256 c (rowOf settings b codes)) (piece 256 c (rowOf settings b coded)) (e .part b c hb hc) (q .part b c hb hc)))

@@ -7,8 +7,10 @@ use lib.Dec.{ltb}
 use lib.Ieee.{Float, binary32, round}
 use lib.ListN.{length, getD}
 use Rattle.mantissas.specs.Inner.{Coded}
+use Rattle.sheet.specs.Settings.{channels}
+use Rattle.sheet.specs.declared.settings.Settings.{Settings}
 use Rattle.frame.specs.Body.{bapRow}
-use Rattle.frame.specs.Layout.{channels, cleanRow}
+use Rattle.frame.specs.Layout.{cleanRow}
 use Rattle.frame_rows.specs.Inner.{LowRow}
 use Rattle.reconstruct.specs.declared.values.Fraction.{Fraction}
 
@@ -32,9 +34,9 @@ pub record LegalBins (exps bap codes : List ℕ) : Type 0 where
   pub coded : Coded bap codes
 
 -- a block of a legal frame, with its allocation
-pub record LegalRow (sheet exps bap codes : List ℕ) : Type 0 where
-  pub exps-long : length exps ≡ 256 * channels sheet
-  pub codes-long : length codes ≡ 256 * channels sheet
-  pub low : LowRow sheet exps
-  pub is : bap ≡ bapRow sheet exps
-  pub coded : Coded (bapRow sheet exps) (cleanRow sheet codes)
+pub record LegalRow (settings : Settings) (exps bap codes : List ℕ) : Type 0 where
+  pub exps-long : length exps ≡ 256 * channels settings
+  pub codes-long : length codes ≡ 256 * channels settings
+  pub low : LowRow settings exps
+  pub is : bap ≡ bapRow settings exps
+  pub coded : Coded (bapRow settings exps) (cleanRow settings codes)

@@ -2,7 +2,7 @@
 ghost use mathlib.Core.Path.{_≡_};
 ghost use Prim.Native.Nat.{_≤_, _<_};
 ghost use Rattle.mantissas.specs.Ranges.{levels};
-ghost use Rattle.reconstruct.specs.Bin.{reconstructed, flagOf, levelOf, gives, turnedBack, binAnswer};
+ghost use Rattle.reconstruct.specs.Bin.{reconstructed, flagOf, levelOf, refused, binAnswer};
 use crate::values::fraction_of;
 use crate::values::value;
 use bits::refusal::ACCEPTED;
@@ -23,7 +23,7 @@ pub struct BinAnswer {
 }
 
 fn refused(number: u32) -> BinAnswer
-    ensures { λ r. ⌜ r ≡ turnedBack number ⌝ }
+    ensures { λ r. ⌜ r ≡ refused number ⌝ }
 {
     BinAnswer {
         refusal: number,

@@ -5,15 +5,15 @@ ghost use mathlib.Core.List.{map};
 ghost use Prim.Native.Nat.{_*_, _≤_};
 ghost use lib.Dec.{eqb};
 ghost use lib.ListN.{length};
+ghost use Rattle.sheet.specs.LegalSettings.{LegalSettings};
+ghost use Rattle.sheet.specs.Settings.{channels};
 ghost use Rattle.frame.specs.Legal.{LegalFrame};
-ghost use Rattle.frame.specs.Under.{Under};
 ghost use Rattle.frame_rows.specs.Rows.{bapsOf};
 ghost use Rattle.reconstruct.specs.Bin.{flagOf, levelOf};
 ghost use Rattle.reconstruct.specs.Copy.{copyBins, copyPart, copyRow, flagsOf, levelsOf};
 ghost use Rattle.reconstruct.specs.Inner.{LegalBins, LegalRow};
 use crate::mantissa::level_at;
-use frame::Track;
-use sheet::BlockSet;
+use sheet::Settings;
 
 // Whether a bin with this bap has a level.
 fn flag_at(bap: u8) -> u8
@@ -81,24 +81,23 @@ fn reconstruct_part(
 
 // A block.
 fn reconstruct_row(
-    sheet: &[u8],
-    track: Track,
-    strategies: [[BlockSet; 6]; 6],
+    settings: Settings,
     exps: &[u8],
     bap: &[u8],
     codes: &[u16],
     has_level: &mut [u8],
     levels: &mut [f32],
 )
-    requires { ⌜ Under (now sheet) track strategies ⌝ }
-    requires { ⌜ LegalRow (now sheet) (now exps) (now bap) (now codes) ⌝ }
-    requires { ⌜ (length (now «has_level») ≡ 256 * track .channels) × (length (now levels) ≡ 256 * track .channels) ⌝ }
-    ensures { λ _. ⌜ now («has_level» .exit) ≡ map flagOf (copyRow (now (sheet .entry)) (now (exps .entry)) (now (codes .entry))) ⌝ }
-    ensures { λ _. ⌜ now (levels .exit) ≡ map levelOf (copyRow (now (sheet .entry)) (now (exps .entry)) (now (codes .entry))) ⌝ }
+    requires { ⌜ LegalSettings settings ⌝ }
+    requires { ⌜ LegalRow settings (now exps) (now bap) (now codes) ⌝ }
+    requires { ⌜ (length (now «has_level») ≡ 256 * channels settings) × (length (now levels) ≡ 256 * channels settings) ⌝ }
+    ensures { λ _. ⌜ now («has_level» .exit) ≡ map flagOf (copyRow settings (now (exps .entry)) (now (codes .entry))) ⌝ }
+    ensures { λ _. ⌜ now (levels .exit) ≡ map levelOf (copyRow settings (now (exps .entry)) (now (codes .entry))) ⌝ }
 {
-    for c in 0..track.channels {
+    let n = sheet::channels(settings);
+    for c in 0..n {
         let a = 256 * c;
-        let e = a + track.ends[c];
+        let e = a + sheet::end_at(settings, c);
         let q = a + 256;
         reconstruct_part(
             &exps[a..e],
@@ -112,30 +111,27 @@ fn reconstruct_row(
 
 // All six blocks of a legal frame, at its allocation.
 pub(crate) fn reconstruct_frame(
-    sheet: &[u8],
-    track: Track,
-    strategies: [[BlockSet; 6]; 6],
+    settings: Settings,
     exps: &[u8],
     bap: &[u8],
     codes: &[u16],
     has_level: &mut [u8],
     levels: &mut [f32],
 )
-    requires { ⌜ Under (now sheet) track strategies ⌝ }
-    requires { ⌜ LegalFrame (now sheet) (now exps) (now codes) × (now bap ≡ bapsOf (now sheet) (now exps)) ⌝ }
-    requires { ⌜ (length (now exps) ≡ 256 * track .channels * 6) × (length (now codes) ≡ 256 * track .channels * 6) ⌝ }
-    requires { ⌜ (length (now «has_level») ≡ 256 * track .channels * 6) × (length (now levels) ≡ 256 * track .channels * 6) ⌝ }
-    ensures { λ _. ⌜ now («has_level» .exit) ≡ flagsOf (now (sheet .entry)) (now (exps .entry)) (now (codes .entry)) ⌝ }
-    ensures { λ _. ⌜ now (levels .exit) ≡ levelsOf (now (sheet .entry)) (now (exps .entry)) (now (codes .entry)) ⌝ }
+    requires { ⌜ LegalSettings settings ⌝ }
+    requires { ⌜ LegalFrame settings (now exps) (now codes) × (now bap ≡ bapsOf settings (now exps)) ⌝ }
+    requires { ⌜ (length (now exps) ≡ 256 * channels settings * 6) × (length (now codes) ≡ 256 * channels settings * 6) ⌝ }
+    requires { ⌜ (length (now «has_level») ≡ 256 * channels settings * 6) × (length (now levels) ≡ 256 * channels settings * 6) ⌝ }
+    ensures { λ _. ⌜ now («has_level» .exit) ≡ flagsOf settings (now (exps .entry)) (now (codes .entry)) ⌝ }
+    ensures { λ _. ⌜ now (levels .exit) ≡ levelsOf settings (now (exps .entry)) (now (codes .entry)) ⌝ }
 {
-    let n = 256 * track.channels;
+    let n = sheet::channels(settings);
+    let z = 256 * n;
     for b in 0..6 {
-        let a = n * b;
-        let e = a + n;
+        let a = z * b;
+        let e = a + z;
         reconstruct_row(
-            sheet,
-            track,
-            strategies,
+            settings,
             &exps[a..e],
             &bap[a..e],
             &codes[a..e],

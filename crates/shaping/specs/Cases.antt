@@ -5,7 +5,7 @@ use mathlib.Core.Bool.{false}
 use mathlib.Core.List.{[], _∷_, map}
 use lib.IntN.{pos, negsuc}
 use lib.Ieee.{nan, inf, fin}
-use Rattle.bits.specs.Answer.{gives, turnedBack}
+use Rattle.bits.specs.Answer.{gives, refused}
 use Rattle.bits.specs.Refusal as refusal
 use Rattle.shaping.specs.Extract.{extracted}
 use Rattle.shaping.specs.Groups.{groupsAnswer}
@@ -48,6 +48,6 @@ groups-at-ends = (refl, refl)
 
 -- 2^-10 - 2^-34, 2^-25 and 1; what is not finite is refused
 pub exponents-of : map extracted (fin false 16777215 (negsuc 33) ∷ fin false 1 (negsuc 24) ∷ fin false 1 (pos 0) ∷ inf false ∷ nan ∷ [])
-    ≡ gives 10 ∷ gives 24 ∷ gives 0 ∷ turnedBack refusal.notFinite ∷ turnedBack refusal.notFinite ∷ []
+    ≡ gives 10 ∷ gives 24 ∷ gives 0 ∷ refused refusal.notFinite ∷ refused refusal.notFinite ∷ []
 unfolding extracted
 exponents-of = refl

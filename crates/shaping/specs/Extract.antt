@@ -3,7 +3,7 @@ use mathlib.Core.Bool.{not, cond}
 use Prim.Native.Nat.{ℕ, _-_, _/_, _%_, _^_, min}
 use lib.Ieee.{Float, binary32, toBits}
 use lib.Ieee.Scale.{finite}
-use Rattle.bits.specs.Answer.{gives, turnedBack}
+use Rattle.bits.specs.Answer.{gives, refused}
 use Rattle.bits.specs.Refusal as refusal
 use Rattle.bits.specs.declared.answer.Answer.{Answer}
 
@@ -20,4 +20,4 @@ exponentOf x = min 24 (126 - biasedExponent x)
 -- the answer of `extract_exponent`: 3 for a coefficient that is not finite
 unfoldable pub extracted : Float → Answer
 unfolding exponentOf
-extracted x = cond (not (finite x)) (turnedBack refusal.notFinite) (gives (exponentOf x))
+extracted x = cond (not (finite x)) (refused refusal.notFinite) (gives (exponentOf x))

@@ -12,7 +12,7 @@ use lib.Ieee.{Float, nan, inf, fin, binary32, up, down, fits, size}
 use lib.Ieee.Digits.{size-lt, size-reaches}
 use lib.Ieee.Positive.{num, den}
 use lib.Ieee.Scale.{finite}
-use Rattle.bits.specs.Answer.{gives, turnedBack}
+use Rattle.bits.specs.Answer.{gives, refused}
 use Rattle.bits.specs.Refusal as refusal
 use Rattle.shaping.specs.Extract.{exponentOf, extracted}
 use Rattle.shaping.specs.FloatLaws.{smallest, reaches-one, one-reached, biased-is, below-one}
@@ -99,6 +99,6 @@ pub extracted-most : (x : Float) → extracted x .value ≤ 24
 unfolding extracted
 extracted-most x = by-finite (finite x)
   where
-    by-finite : (f : Bool) → cond (not f) (turnedBack refusal.notFinite) (gives (exponentOf x)) .value ≤ 24
+    by-finite : (f : Bool) → cond (not f) (refused refusal.notFinite) (gives (exponentOf x)) .value ≤ 24
     by-finite true = exponent-at-most x
     by-finite false = omega arith

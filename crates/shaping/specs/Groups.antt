@@ -2,7 +2,7 @@
 use mathlib.Core.Bool.{not, cond, _&&_}
 use Prim.Native.Nat.{ℕ, _+_, _-_, _/_}
 use lib.Dec.{eqb, leb}
-use Rattle.bits.specs.Answer.{gives, turnedBack}
+use Rattle.bits.specs.Answer.{gives, refused}
 use Rattle.bits.specs.Refusal as refusal
 use Rattle.bits.specs.declared.answer.Answer.{Answer}
 use Rattle.shaping.specs.Passes.{isSpan}
@@ -13,7 +13,7 @@ groups end span = cond (eqb span 1) ((end - 1) / 3) (cond (eqb span 2) ((end - 1
 
 -- the answer of `ngrps_for_strategy`: 2 for another end than 0..256, or another span
 unfoldable pub groupsAnswer : ℕ → ℕ → Answer
-groupsAnswer end span = cond (not (leb end 256 && isSpan span)) (turnedBack refusal.outOfRange) (gives (groups end span))
+groupsAnswer end span = cond (not (leb end 256 && isSpan span)) (refused refusal.outOfRange) (gives (groups end span))
 
 -- "the spans coded after the 4 bits" (document 01, "The frame body"): they start at bin 1, and the last may be short
 abbrev pub spanCount : ℕ → ℕ → ℕ

@@ -4,7 +4,7 @@ use mathlib.Core.List.{List, [], _∷_}
 use Prim.Native.Nat.{ℕ, zero, suc, _+_, _-_, _*_, _/_}
 use lib.Dec.{eqb, leb, ltb}
 use lib.ListN.{length, take, drop, getD, replicate}
-use Rattle.bits.specs.Answer.{gives, turnedBack}
+use Rattle.bits.specs.Answer.{gives, refused}
 use Rattle.bits.specs.Parts.{tab, piece}
 use Rattle.bits.specs.Refusal as refusal
 use Rattle.bits.specs.declared.answer.Answer.{Answer}
@@ -40,8 +40,8 @@ picked exp = cond (leb (length exp) 1) 1 (cond (leb (perBin 3 exp) 50) 3 (cond (
 -- the answer of `pick_strategy_for_block`: 2 for another end than 0..256, 10 for a slice of more than 256 entries or one that ends before end
 unfoldable pub pickAnswer : List ℕ → ℕ → Answer
 pickAnswer exp end =
-    cond (not (leb end 256)) (turnedBack refusal.outOfRange)
-    (cond (not (leb (length exp) 256 && leb end (length exp))) (turnedBack refusal.wrongLength)
+    cond (not (leb end 256)) (refused refusal.outOfRange)
+    (cond (not (leb (length exp) 256 && leb end (length exp))) (refused refusal.wrongLength)
     (gives (picked (take end exp))))
 
 -- ---- the frame: "blocks 0 and 3; the other four 0; alone it takes 1..6 channels, an end 0..256 for each and the whole exponent buffer;

@@ -8,7 +8,7 @@ use native.Mathlib.Omega.{arith}
 use lib.Dec.{eqb, leb}
 use lib.ListN.{length, getD, take}
 use borrow.Author.Tests.{leb-true, eqb-true}
-use Rattle.bits.specs.Answer.{gives, turnedBack}
+use Rattle.bits.specs.Answer.{gives, refused}
 use Rattle.bits.specs.Refusal as refusal
 use Rattle.bits.specs.Tests.{both}
 use Rattle.shaping.specs.Inner.{Selectable}
@@ -55,7 +55,7 @@ unfolding pickAnswer picked
 picked-most exp end = by-tests (leb end 256) (leb (length exp) 256 && leb end (length exp))
   where
     by-tests : (a b : Bool)
-        → cond (not a) (turnedBack refusal.outOfRange) (cond (not b) (turnedBack refusal.wrongLength) (gives (picked (take end exp)))) .value ≤ 3
+        → cond (not a) (refused refusal.outOfRange) (cond (not b) (refused refusal.wrongLength) (gives (picked (take end exp)))) .value ≤ 3
     by-tests true true =
         picked-low (leb (length (take end exp)) 1) (leb (perBin 3 (take end exp)) 50) (leb (perBin 1 (take end exp)) 75)
     by-tests true false = omega arith

@@ -3,7 +3,6 @@ use Prim.Native.Nat.{ℕ}
 use mathlib.Core.Path.{_≡_, refl}
 use mathlib.Core.List.{List, [], _∷_, _++_}
 use mathlib.Core.Bool.{false}
-use Rattle.bits.specs.Parts.{tab, joined}
 use Rattle.bits.specs.Refusal as refusal
 use Rattle.sheet.specs.Sheet.{checkOf, checkBeside}
 use Rattle.sheet.specs.Settings.{settingsOf}
@@ -44,5 +43,5 @@ swapped-and-number : checkBeside false (two 32 2 0 (plain 1 40) (plain 0 37)) �
 swapped-and-number = refl
 
 same-settings : settingsOf (two 32 2 0 (plain 1 40) (plain 0 37)) ≡ settingsOf (two 32 2 0 (plain 0 37) (plain 1 40))
-unfolding tab joined
+unfolding settingsOf
 same-settings = refl

@@ -77,3 +77,12 @@ module _ (s : List ℕ) where
       by-test : (a : Bool) → (a ≡ false → ⊥) → refusal.outOfRange ≡ cond (not a) refusal.structure refusal.outOfRange
       by-test true h = refl
       by-test false h = absurd (h refl)
+
+  -- accepted: the numbers of the call are in range, and so is the sheet
+  pub beside-accepted : (inside : Bool) → checkBeside inside s ≡ refusal.accepted → (inside ≡ true) × (checkOf s ≡ refusal.accepted)
+  beside-accepted true e = (refl, e)
+  beside-accepted false e = absurd (by-test (structured s) e)
+    where
+      by-test : (a : Bool) → cond (not a) refusal.structure refusal.outOfRange ≡ refusal.accepted → ⊥
+      by-test true q = omega (arith, q)
+      by-test false q = omega (arith, q)

@@ -61,6 +61,11 @@ module _ {n : ℕ} where
   none-before (none e) c b = refl
   none-before (next {r} e more) c b = rw (ne-eqb (channelOf r) c (λ q. omega (arith, e, q))) (none-before more c (omega arith))
 
+  -- no record has a number past the last
+  pub none-past : {k : ℕ} {rs : List (List ℕ)} → Numbered n k rs → (c : ℕ) → n ≤ c → ofChannel c rs ≡ []
+  none-past (none e) c b = refl
+  none-past (next {r} e more) c b = rw (ne-eqb (channelOf r) c (λ q. omega (arith, e, q, numbered-length more))) (none-past more c b)
+
   -- the record with a channel's number is the one at its place
   pub of-number : {k : ℕ} {rs : List (List ℕ)} → Numbered n k rs → (c i : ℕ) → c ≡ k + i → i < length rs → ofChannel c rs ≡ getD rs i [] ∷ []
   of-number (none e) c i q b = absurd (omega arith)

@@ -1,5 +1,5 @@
--- A channel's record, document 01, "The track sheet": where each value stands among its bytes, the record by value,
--- and the tables that the frame takes. A record as its bytes is r, a sheet is s.
+-- A channel's record, document 01, "The track sheet": where each value stands among its bytes, and the record by value.
+-- A record as its bytes is r, a sheet is s.
 use Prim.Native.Nat.{ℕ, _+_, _*_}
 use mathlib.Core.List.{List, [], _∷_}
 use mathlib.Core.Bool.{cond}
@@ -91,16 +91,3 @@ recordBytes s c = getD (recordsOf s) c []
 
 abbrev pub recordOf : List ℕ → ℕ → ChannelRecord
 recordOf s c = channelRecord (recordBytes s c)
-
--- ---- "the strategies of six blocks by six channels are fixed tables": channel by block; reuse for a channel that is not there
-
-abbrev pub strategiesOf : List ℕ → List (List BlockSet)
-strategiesOf s = sixOf (λ c. recordOf s c .blocks)
-
--- the set of a channel's block in such a table
-abbrev pub setIn : List (List BlockSet) → ℕ → ℕ → ExponentSet
-setIn table c block = getD (getD table c []) block (record { set = Reuse }) .set
-
--- the ends of six channels
-abbrev pub endsOf : List ℕ → List ℕ
-endsOf s = sixOf (λ c. endOf (recordBytes s c))

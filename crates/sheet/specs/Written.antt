@@ -2,14 +2,15 @@
 use Prim.Native.Nat.{ℕ, _/_, _%_}
 use mathlib.Core.List.{List, [], _∷_, _++_, map, flatten}
 use mathlib.Core.Bool.{cond}
-use lib.ListN.{length, getD}
+use lib.ListN.{length, getD, take}
 use lib.Dec.{eqb}
 use Rattle.bits.specs.Parts.{joined}
 use Rattle.sheet.specs.declared.record.ExponentSet.{ExponentSet}
 use Rattle.sheet.specs.declared.record.ExponentSet.the-variants.{Reuse, New}
 use Rattle.sheet.specs.declared.record.ChannelRecord.{ChannelRecord}
 use Rattle.sheet.specs.Record.{sixOf}
-use Rattle.sheet.specs.Settings.{Settings}
+use Rattle.sheet.specs.declared.settings.Settings.{Settings}
+use Rattle.sheet.specs.Common.{channelsOf}
 
 -- the number that names a set
 abbrev pub setNumber : ExponentSet → ℕ
@@ -31,7 +32,7 @@ recordWritten v =
 unfoldable pub restWritten : Settings → List ℕ
 restWritten w =
     let c = w .common in
-    1 ∷ c .fscod ∷ c .nfchans ∷ c .lfe ∷ c .sdcycod ∷ c .fdcycod ∷ c .sgaincod ∷ c .dbpbcod ∷ c .floorcod ∷ c .csnroffst ∷ flatten (map recordWritten (w .records))
+    1 ∷ c .fscod ∷ c .nfchans ∷ c .lfe ∷ c .sdcycod ∷ c .fdcycod ∷ c .sgaincod ∷ c .dbpbcod ∷ c .floorcod ∷ c .csnroffst ∷ flatten (map recordWritten (take (channelsOf c) (w .records)))
 
 unfoldable pub sheetWritten : Settings → List ℕ
 sheetWritten w = length (restWritten w) / 256 ∷ length (restWritten w) % 256 ∷ restWritten w

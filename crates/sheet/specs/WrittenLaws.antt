@@ -15,7 +15,8 @@ use Rattle.sheet.specs.declared.record.ExponentSet.the-variants.{Reuse}
 use Rattle.sheet.specs.declared.record.BlockSet.{BlockSet}
 use Rattle.sheet.specs.declared.record.ChannelRecord.{ChannelRecord}
 use Rattle.sheet.specs.Grammar.{headSize, lengthOf, versionOf, nsegOf, recordSize, countOff, recordsOf, every, isWhole}
-use Rattle.sheet.specs.Common.{commonOf}
+use Rattle.sheet.specs.declared.settings.Settings.{Settings}
+use Rattle.sheet.specs.Common.{commonOf, channelsOf}
 use Rattle.sheet.specs.Record.{channelOf, strategyOf, setOf, blockSet, offstAt, lenAt, baAt, segmentValue, channelRecord}
 use Rattle.sheet.specs.Ranges.{recordInRange}
 use Rattle.sheet.specs.RecordLaws.{six-at, eight-at}
@@ -106,19 +107,20 @@ high-byte n a b e h = omega arith
 low-byte : (n a b : ℕ) → n ≡ 256 * a + b → b < 256 → n % 256 ≡ b
 low-byte n a b e h = omega arith
 
-module _ (s : List ℕ) (vs : List ChannelRecord) (size : headSize ≤ length s) (matches : length s ≡ 2 + lengthOf s) (version : versionOf s ≡ 1) (low : getD s 1 0 < 256)
-    (whole : every isWhole (recordsOf s) ≡ true) (held : every (recordInRange (commonOf s)) (recordsOf s) ≡ true) (same : vs ≡ map channelRecord (recordsOf s)) where
-  joined-again : flatten (map recordWritten vs) ≡ drop 12 s
+module _ (s : List ℕ) (settings : Settings) (size : headSize ≤ length s) (matches : length s ≡ 2 + lengthOf s) (version : versionOf s ≡ 1) (low : getD s 1 0 < 256)
+    (whole : every isWhole (recordsOf s) ≡ true) (held : every (recordInRange (commonOf s)) (recordsOf s) ≡ true) (common : settings .common ≡ commonOf s)
+    (same : take (channelsOf (commonOf s)) (settings .records) ≡ map channelRecord (recordsOf s)) where
+  joined-again : flatten (map recordWritten (take (channelsOf (commonOf s)) (settings .records))) ≡ drop 12 s
   joined-again = ap (λ (l : List ChannelRecord). flatten (map recordWritten l)) same ∙ records-again (commonOf s) (recordsOf s) whole held ∙ records-joined 0 (drop 12 s)
 
-  rest-again : restWritten (record { common = commonOf s; records = vs }) ≡ drop 2 s
+  rest-again : restWritten settings ≡ drop 2 s
   unfolding restWritten
-  rest-again = rw (joined-again, ← version) (ap (drop 2) (twelve s size))
+  rest-again = rw (common, joined-again, ← version) (ap (drop 2) (twelve s size))
 
-  rest-length : length (restWritten (record { common = commonOf s; records = vs })) ≡ lengthOf s
+  rest-length : length (restWritten settings) ≡ lengthOf s
   rest-length = ap length rest-again ∙ length-drop 2 s ∙ omega arith
 
-  pub written-again : sheetWritten (record { common = commonOf s; records = vs }) ≡ s
+  pub written-again : sheetWritten settings ≡ s
   unfolding sheetWritten
   written-again =
       rw (high-byte _ (getD s 0 0) (getD s 1 0) rest-length low, low-byte _ (getD s 0 0) (getD s 1 0) rest-length low, rest-again)

@@ -1,4 +1,4 @@
-// A channel's record by value, and what the frame takes as tables: the strategies and the ends of all channels.
+// A channel's record by value.
 ghost use mathlib.Core.Path.{_≡_};
 ghost use Prim.Native.Nat.{_<_};
 ghost use Rattle.sheet.specs.Record.{
@@ -6,17 +6,13 @@ ghost use Rattle.sheet.specs.Record.{
   blocksOf,
   columnOf,
   channelRecord,
-  endOf,
-  endsOf,
   recordBytes,
   recordOf,
-  strategiesOf,
   strategyOf,
 };
 use crate::read::HEAD_SIZE;
 use crate::read::byte_at;
 use crate::read::record_end;
-use crate::read::wide;
 
 // The exponents of a block: those of the block before, or a new set with its span.
 pub enum ExponentSet {
@@ -133,45 +129,4 @@ pub fn record_of(sheet: &[u8], channel: usize) -> ChannelRecord
     ensures { λ r. ⌜ r ≡ recordOf (now (sheet .entry)) channel ⌝ }
 {
     channel_record(record_bytes(sheet, channel))
-}
-
-// What a channel's record holds for its six blocks.
-fn sets_of(sheet: &[u8], channel: usize) -> [BlockSet; 6]
-    ensures { λ r. ⌜ r ≡ recordOf (now (sheet .entry)) channel .blocks ⌝ }
-{
-    blocks_of(record_bytes(sheet, channel))
-}
-
-// The strategies of six channels by six blocks; reuse for a channel that is not there.
-pub fn strategies_of(sheet: &[u8]) -> [[BlockSet; 6]; 6]
-    ensures { λ r. ⌜ r ≡ strategiesOf (now (sheet .entry)) ⌝ }
-{
-    [
-        sets_of(sheet, 0),
-        sets_of(sheet, 1),
-        sets_of(sheet, 2),
-        sets_of(sheet, 3),
-        sets_of(sheet, 4),
-        sets_of(sheet, 5),
-    ]
-}
-
-fn end_of(sheet: &[u8], channel: usize) -> usize
-    ensures { λ r. ⌜ r ≡ endOf (recordBytes (now (sheet .entry)) channel) ⌝ }
-{
-    wide(byte_at(record_bytes(sheet, channel), 1))
-}
-
-// The ends of six channels; 0 for a channel that is not there.
-pub fn ends_of(sheet: &[u8]) -> [usize; 6]
-    ensures { λ r. ⌜ r ≡ endsOf (now (sheet .entry)) ⌝ }
-{
-    [
-        end_of(sheet, 0),
-        end_of(sheet, 1),
-        end_of(sheet, 2),
-        end_of(sheet, 3),
-        end_of(sheet, 4),
-        end_of(sheet, 5),
-    ]
 }

@@ -25,14 +25,14 @@ part-put-mantissas-end-2 c = front-inside _ (c .before .before .before .before .
 
 put-mantissas-requires : tie.Need-put-mantissas-requires
 put-mantissas-requires c κs =
-    let baps = front-is _ (c .before .before .before .before .before .before .before .before .before .before .before .before .no-row .result) (c .before .before .before .before .before .before .before .before .before .gather-baps .last .1 .1 .1 .0) _ (c .before .before .before .before .before .before .before .before .before .gather-baps .ensures .0) (c .before .before .before .before .before .before .before .before .before .gather-baps .ensures .1) in
-    let codes = front-is _ (c .before .before .before .before .before .before .before .before .before .before .before .no-row-codes .result) (c .before .before .before .before .before .before .gather-codes .last .1 .1 .1 .0) _ (c .before .before .before .before .before .before .gather-codes .ensures .0) (c .before .before .before .before .before .before .gather-codes .ensures .1) in
+    let baps = front-is _ (c .before .before .before .before .before .before .before .before .before .before .before .before .no-row .result) (c .before .before .before .before .before .before .before .before .before .gather-baps .last .1 .1 .0) _ (c .before .before .before .before .before .before .before .before .before .gather-baps .ensures .0) (c .before .before .before .before .before .before .before .before .before .gather-baps .ensures .1) in
+    let codes = front-is _ (c .before .before .before .before .before .before .before .before .before .before .before .no-row-codes .result) (c .before .before .before .before .before .before .gather-codes .last .1 .1 .0) _ (c .before .before .before .before .before .before .gather-codes .ensures .0) (c .before .before .before .before .before .before .gather-codes .ensures .1) in
     rw (baps, codes) (c .before .before .before .before .before .before .before .before .before .before .before .before .before .before .before .before .pre .1 .1)
 
 returns : tie.Need-returns
 returns c =
-    let baps = front-is _ (c .before .before .before .before .before .before .before .before .before .before .before .before .before .before .before .no-row .result) (c .before .before .before .before .before .before .before .before .before .before .before .before .gather-baps .last .1 .1 .1 .0) _ (c .before .before .before .before .before .before .before .before .before .before .before .before .gather-baps .ensures .0) (c .before .before .before .before .before .before .before .before .before .before .before .before .gather-baps .ensures .1) in
-    let codes = front-is _ (c .before .before .before .before .before .before .before .before .before .before .before .before .before .before .no-row-codes .result) (c .before .before .before .before .before .before .before .before .before .gather-codes .last .1 .1 .1 .0) _ (c .before .before .before .before .before .before .before .before .before .gather-codes .ensures .0) (c .before .before .before .before .before .before .before .before .before .gather-codes .ensures .1) in
+    let baps = front-is _ (c .before .before .before .before .before .before .before .before .before .before .before .before .before .before .before .no-row .result) (c .before .before .before .before .before .before .before .before .before .before .before .before .gather-baps .last .1 .1 .0) _ (c .before .before .before .before .before .before .before .before .before .before .before .before .gather-baps .ensures .0) (c .before .before .before .before .before .before .before .before .before .before .before .before .gather-baps .ensures .1) in
+    let codes = front-is _ (c .before .before .before .before .before .before .before .before .before .before .before .before .before .before .no-row-codes .result) (c .before .before .before .before .before .before .before .before .before .gather-codes .last .1 .1 .0) _ (c .before .before .before .before .before .before .before .before .before .gather-codes .ensures .0) (c .before .before .before .before .before .before .before .before .before .gather-codes .ensures .1) in
     rw (baps, codes) at (c .before .before .put-mantissas .ensures)
 
 pub put-bins-spec : {M : Type 1} → statement M

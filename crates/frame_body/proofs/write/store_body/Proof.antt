@@ -9,7 +9,7 @@ use Rattle.frame_body.proofs.write.store_body.Tie as tie
 
 put-body-requires : tie.Need-put-body-requires
 put-body-requires c κs =
-    let p = c .before .before .before .before .before .before .before .pre in
+    let p = c .before .before .before .before .before .before .pre in
     (p .0, (p .1 .0, (p .1 .1 .0, (p .1 .1 .1 .0, rw (c .start .ensures) (record { few = omega arith; small = omega arith; room = omega arith })))))
 
 finish-requires : tie.Need-finish-requires

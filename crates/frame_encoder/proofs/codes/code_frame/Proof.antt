@@ -1,61 +1,58 @@
 -- The rows before block b hold their codes.
-use Prim.Native.Nat.{ℕ, _-_, _*_, _≤_}
-use mathlib.Core.Path.{_≡_, refl, ap, _∙_}
+use Prim.Native.Nat.{_-_, _*_, _≤_}
+use mathlib.Core.Path.{_≡_, refl, _∙_}
 use native.Mathlib.Omega.{arith}
 use lib.ListN.{length, take}
 use borrow.Author.Needs.{needs}
 use Rattle.bits.specs.Parts.{joined}
-use Rattle.bits.specs.PartsLaws.{within, fill-start, fill-end}
-use Rattle.frame.specs.Layout.{channels}
-use Rattle.frame.specs.Under.{held-channels}
-use Rattle.frame_rows.specs.RowsLaws.{held-most}
-use Rattle.frame_rows.specs.Walks.{lent-long, turn-length, turn-more}
+use Rattle.bits.specs.PartsLaws.{fill-start, fill-end}
+use Rattle.sheet.specs.Settings.{channels}
+use Rattle.frame_rows.specs.RowsLaws.{row-long, row-inside, buffer-held}
+use Rattle.frame_rows.specs.Walks.{turn-length, turn-more}
 use Rattle.frame_runs.specs.Runs.{framed}
 use Rattle.frame_encoder.specs.Codes.{codePart, codesAt}
 use Rattle.frame_encoder.proofs.codes.code_frame.Statement.{statement}
 use Rattle.frame_encoder.proofs.codes.code_frame.Tie as tie
 
 abbrev Inv-loop : tie.InvT-loop
-Inv-loop sheet track strategies coeffs exps bap codes₀ n b₀ codes b = (b ≤ 6) × (length codes ≡ length codes₀) × (take (256 * track .channels * b) codes ≡ joined b (λ j. joined (channels sheet) (codePart sheet coeffs exps bap j)))
+Inv-loop settings coeffs exps bap codes₀ n z b₀ codes b = (b ≤ 6) × (length codes ≡ length codes₀) × (take (256 * n * b) codes ≡ joined b (λ j. joined (channels settings) (codePart settings coeffs exps bap j)))
 
 abbrev μ-loop : tie.MeasureT-loop
-μ-loop sheet track strategies coeffs exps bap codes₀ n b₀ codes b = 6 - b
+μ-loop settings coeffs exps bap codes₀ n z b₀ codes b = 6 - b
 
-mul-n : tie.Need-mul-n Inv-loop μ-loop
-mul-n c = omega (arith, held-most (c .before .before .before .before .before .before .pre .0))
+mul-z : tie.Need-mul-z Inv-loop μ-loop
+mul-z c = omega (arith, c .channels .ensures .most)
 
 loop-holds : tie.Need-loop-holds Inv-loop μ-loop
-loop-holds c = (omega arith, refl, fill-start 256 (256 * c .before .before .before .before .before .before .args .track .channels * 0) _ _ (omega arith))
+loop-holds c = (omega arith, refl, fill-start 256 (256 * c .channels .result * 0) _ _ (omega arith))
 
 mul-a : tie.Need-mul-a Inv-loop μ-loop
-mul-a c = omega (arith, held-most (c .before .before .before .before .before .before .before .before .pre .0), within (256 * c .before .before .before .before .before .before .before .before .args .track .channels) (c .before .loop .b) 6 (c .loop-test .taken))
+mul-a c = omega (arith, row-inside (c .before .before .channels .ensures) _ (c .loop-test .taken))
 
 add-e : tie.Need-add-e Inv-loop μ-loop
-add-e c = omega (arith, held-most (c .before .before .before .before .before .before .before .before .pre .0), within (256 * c .before .before .before .before .before .before .before .before .args .track .channels) (c .before .loop .b) 6 (c .loop-test .taken))
+add-e c = omega (arith, row-inside (c .before .before .channels .ensures) _ (c .loop-test .taken))
 
 mul-code-row : tie.Need-mul-code-row Inv-loop μ-loop
-mul-code-row c = omega (arith, held-most (c .before .before .before .before .before .before .before .before .pre .0), within (256 * c .before .before .before .before .before .before .before .before .args .track .channels) (c .before .loop .b) 6 (c .loop-test .taken))
+mul-code-row c = omega (arith, row-inside (c .before .before .channels .ensures) _ (c .loop-test .taken))
 
 part-code-row-end : tie.Need-part-code-row-end Inv-loop μ-loop
-part-code-row-end c = omega (arith, c .before .loop .inv .1, c .before .before .before .before .before .before .before .before .pre .1 .1, within (256 * c .before .before .before .before .before .before .before .before .args .track .channels) (c .before .loop .b) 6 (c .loop-test .taken))
+part-code-row-end c = omega (arith, buffer-held (c .before .before .channels .ensures) (c .before .loop .inv .1 ∙ c .before .before .before .before .before .before .before .pre .1 .1), row-inside (c .before .before .channels .ensures) _ (c .loop-test .taken))
 
 code-row-requires : tie.Need-code-row-requires Inv-loop μ-loop
 code-row-requires c κs =
-    let s = c .before .before .before .before .before .before .before .before .before in
+    let p = c .before .before .before .before .before .before .before .before .pre in
     let l = c .before .before .loop in
     let h = c .before .loop-test .taken in
-    let row = lent-long (256 * s .args .track .channels) 6 (l .b) h (l .codes) (l .inv .1 ∙ s .pre .1 .1) in
-    (s .pre .0, (s .pre .1 .0, (h, row ∙ ap (λ (n : ℕ). 256 * n) (held-channels (s .pre .0)))))
+    (p .0, (p .1 .0, (h, row-long (c .before .before .before .channels .ensures) (l .b) h (l .codes) (l .inv .1 ∙ p .1 .1))))
 
 loop-again : tie.Need-loop-again Inv-loop μ-loop
 loop-again c =
-    let s = c .before .before .before .before .before .before .before .before .before .before .before .before in
     let l = c .before .before .before .before .before .loop in
     let h = c .before .before .before .before .loop-test .taken in
-    let z = 256 * s .args .track .channels in
-    let long = l .inv .1 ∙ s .pre .1 .1 in
-    let y = c .before .before .code-row .last .1 .1 .1 .1 .1 .1 .1 .0 in
-    let kept = c .before .before .code-row .kept .1 .1 .1 .1 .1 .1 .1 .0 in (
+    let z = 256 * c .before .before .before .before .before .before .channels .result in
+    let long = buffer-held (c .before .before .before .before .before .before .channels .ensures) (l .inv .1 ∙ c .before .before .before .before .before .before .before .before .before .before .before .pre .1 .1) in
+    let y = c .before .before .code-row .last .1 .1 .1 .1 .1 .0 in
+    let kept = c .before .before .code-row .kept .1 .1 .1 .1 .1 .0 in (
       omega (arith, h),
       turn-length z 6 (l .b) h (l .codes) y long kept ∙ l .inv .1,
       turn-more z 6 (l .b) h (l .codes) y long kept _ (l .inv .2) (c .before .before .code-row .ensures),
@@ -66,7 +63,7 @@ same-length c = c .before .loop .inv .1
 
 returns : tie.Need-returns Inv-loop μ-loop
 unfolding codesAt framed
-returns c = fill-end (256 * c .before .before .before .before .before .before .before .before .args .track .channels) (c .before .loop .b) 6 _ _ (omega arith) (c .before .loop .inv .1 ∙ c .before .before .before .before .before .before .before .before .pre .1 .1) (c .before .loop .inv .2)
+returns c = fill-end (256 * c .before .before .channels .result) (c .before .loop .b) 6 _ _ (omega arith) (buffer-held (c .before .before .channels .ensures) (c .before .loop .inv .1 ∙ c .before .before .before .before .before .before .before .pre .1 .1)) (c .before .loop .inv .2)
 
 pub code-frame-spec : {M : Type 1} → statement M
 code-frame-spec =
@@ -74,7 +71,8 @@ code-frame-spec =
     (tie.spec
     Inv-loop
     μ-loop
-    mul-n
+    (λ c κs. search needs)
+    mul-z
     loop-holds
     mul-a
     add-e

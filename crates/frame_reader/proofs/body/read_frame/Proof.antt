@@ -14,14 +14,14 @@ returns : tie.Need-returns
 returns c =
     let g = c .before .before .before .before .before .before .before .before .before .before .before .before .before .before .before .before .before .before .before .before .get-frame .ensures in
     let k = c .before .before .before .before .before .before .before .before .before .before .before .before .before .before .before .before .before .before .before .before .get-frame .kept in
-    let bits = bitsOf (c .before .before .before .before .before .before .before .before .before .before .before .before .before .before .before .before .before .before .before .before .before .before .before .before .before .before .before .before .before .args .input .now) in
-    let outcome = readFrame (c .before .before .before .before .before .before .before .before .before .before .before .before .before .before .before .before .before .before .before .before .before .before .before .before .before .before .before .before .before .args .sheet .now) bits in (
+    let bits = bitsOf (c .before .before .before .before .before .before .before .before .before .before .before .before .before .before .before .before .before .before .before .before .before .before .before .before .before .before .before .before .args .input .now) in
+    let outcome = readFrame (c .before .before .before .before .before .before .before .before .before .before .before .before .before .before .before .before .before .before .before .before .before .before .before .before .before .before .before .before .args .settings) bits in (
       g .answer,
       (
-        c .before .before .before .before .before .before .before .before .before .before .fill .ensures ∙ ap (λ (n : ℕ). replicate n 0) (k .1 .1 .1 .1 .0) ∙ faulty-zero expsRead bits (length (c .before .before .before .before .before .before .before .before .before .before .before .before .before .before .before .before .before .before .before .before .before .before .before .before .before .before .before .before .before .args .exps .now)) outcome (g .answer) (c .before .before .before .before .before .before .before .before .before .before .before .before .if1 .taken),
+        c .before .before .before .before .before .before .before .before .before .before .fill .ensures ∙ ap (λ (n : ℕ). replicate n 0) (k .1 .1 .1 .0) ∙ faulty-zero expsRead bits (length (c .before .before .before .before .before .before .before .before .before .before .before .before .before .before .before .before .before .before .before .before .before .before .before .before .before .before .before .before .args .exps .now)) outcome (g .answer) (c .before .before .before .before .before .before .before .before .before .before .before .before .if1 .taken),
         (
-          c .before .before .before .before .before .before .fill2 .ensures ∙ ap (λ (n : ℕ). replicate n 0) (k .1 .1 .1 .1 .1 .0) ∙ faulty-zero bapRead bits (length (c .before .before .before .before .before .before .before .before .before .before .before .before .before .before .before .before .before .before .before .before .before .before .before .before .before .before .before .before .before .args .bap .now)) outcome (g .answer) (c .before .before .before .before .before .before .before .before .before .before .before .before .if1 .taken),
-          c .before .before .fill-codes .ensures ∙ ap (λ (n : ℕ). replicate n 0) (k .1 .1 .1 .1 .1 .1 .0) ∙ faulty-zero codesRead bits (length (c .before .before .before .before .before .before .before .before .before .before .before .before .before .before .before .before .before .before .before .before .before .before .before .before .before .before .before .before .before .args .codes .now)) outcome (g .answer) (c .before .before .before .before .before .before .before .before .before .before .before .before .if1 .taken),
+          c .before .before .before .before .before .before .fill2 .ensures ∙ ap (λ (n : ℕ). replicate n 0) (k .1 .1 .1 .1 .0) ∙ faulty-zero bapRead bits (length (c .before .before .before .before .before .before .before .before .before .before .before .before .before .before .before .before .before .before .before .before .before .before .before .before .before .before .before .before .args .bap .now)) outcome (g .answer) (c .before .before .before .before .before .before .before .before .before .before .before .before .if1 .taken),
+          c .before .before .fill-codes .ensures ∙ ap (λ (n : ℕ). replicate n 0) (k .1 .1 .1 .1 .1 .0) ∙ faulty-zero codesRead bits (length (c .before .before .before .before .before .before .before .before .before .before .before .before .before .before .before .before .before .before .before .before .before .before .before .before .before .before .before .before .args .codes .now)) outcome (g .answer) (c .before .before .before .before .before .before .before .before .before .before .before .before .if1 .taken),
         ),
       ),
     )

@@ -8,62 +8,61 @@ use Rattle.bits.specs.Parts.{joined}
 use Rattle.bits.specs.PartsLaws.{fill-start, fill-end}
 use Rattle.frame.specs.Layout.{rowOf, cleanRow}
 use Rattle.frame_rows.specs.Rows.{cleaned}
-use Rattle.frame_rows.specs.RowsLaws.{row-lent, row-inside, held-most}
-use Rattle.frame_rows.specs.Walks.{lent-long, turn-length, turn-more}
+use Rattle.frame_rows.specs.RowsLaws.{row-long, row-lent, row-inside, buffer-held}
+use Rattle.frame_rows.specs.Walks.{turn-length, turn-more}
 use Rattle.frame_rows.proofs.codes.clean_codes.Statement.{statement}
 use Rattle.frame_rows.proofs.codes.clean_codes.Tie as tie
 
 abbrev Inv-loop : tie.InvT-loop
-Inv-loop sheet track strategies codes to₀ n b₀ to b = (b ≤ 6) × (length to ≡ length to₀) × (take (256 * track .channels * b) to ≡ joined b (λ j. cleanRow sheet (rowOf sheet j codes)))
+Inv-loop settings codes to₀ n z b₀ to b = (b ≤ 6) × (length to ≡ length to₀) × (take (256 * n * b) to ≡ joined b (λ j. cleanRow settings (rowOf settings j codes)))
 
 abbrev μ-loop : tie.MeasureT-loop
-μ-loop sheet track strategies codes to₀ n b₀ to b = 6 - b
+μ-loop settings codes to₀ n z b₀ to b = 6 - b
 
-mul-n : tie.Need-mul-n Inv-loop μ-loop
-mul-n c = omega (arith, held-most (c .before .before .before .before .pre .0))
+mul-z : tie.Need-mul-z Inv-loop μ-loop
+mul-z c = omega (arith, c .channels .ensures .most)
 
 loop-holds : tie.Need-loop-holds Inv-loop μ-loop
-loop-holds c = (search needs, refl, fill-start 256 (256 * c .before .before .before .before .args .track .channels * 0) _ _ (omega arith))
+loop-holds c = (search needs, refl, fill-start 256 (256 * c .channels .result * 0) _ _ (omega arith))
 
 mul-a : tie.Need-mul-a Inv-loop μ-loop
-mul-a c = omega (arith, row-inside (c .before .before .before .before .before .before .pre .0) _ (c .loop-test .taken))
+mul-a c = omega (arith, row-inside (c .before .before .channels .ensures) _ (c .loop-test .taken))
 
 add-e : tie.Need-add-e Inv-loop μ-loop
-add-e c = omega (arith, row-inside (c .before .before .before .before .before .before .pre .0) _ (c .loop-test .taken))
+add-e c = omega (arith, row-inside (c .before .before .channels .ensures) _ (c .loop-test .taken))
 
 mul-clean-row : tie.Need-mul-clean-row Inv-loop μ-loop
-mul-clean-row c = omega (arith, row-inside (c .before .before .before .before .before .before .pre .0) _ (c .loop-test .taken))
+mul-clean-row c = omega (arith, row-inside (c .before .before .channels .ensures) _ (c .loop-test .taken))
 
 part-clean-row-end : tie.Need-part-clean-row-end Inv-loop μ-loop
-part-clean-row-end c = omega (arith, row-inside (c .before .before .before .before .before .before .pre .0) _ (c .loop-test .taken))
+part-clean-row-end c = omega (arith, row-inside (c .before .before .channels .ensures) _ (c .loop-test .taken))
 
 mul-clean-row-2 : tie.Need-mul-clean-row-2 Inv-loop μ-loop
-mul-clean-row-2 c = omega (arith, row-inside (c .before .before .before .before .before .before .before .pre .0) _ (c .before .loop-test .taken))
+mul-clean-row-2 c = omega (arith, row-inside (c .before .before .before .channels .ensures) _ (c .before .loop-test .taken))
 
 part-clean-row-end-2 : tie.Need-part-clean-row-end-2 Inv-loop μ-loop
-part-clean-row-end-2 c = omega (arith, row-inside (c .before .before .before .before .before .before .before .pre .0) _ (c .before .loop-test .taken))
+part-clean-row-end-2 c = omega (arith, row-inside (c .before .before .before .channels .ensures) _ (c .before .loop-test .taken))
 
 clean-row-requires : tie.Need-clean-row-requires Inv-loop μ-loop
 clean-row-requires c κs =
-    let g = c .before .before .before .before .before .before .before .before .args in
-    let p = c .before .before .before .before .before .before .before .before .pre in
-    let z = 256 * g .track .channels in
+    let g = c .before .before .before .before .before .before .before .args in
+    let p = c .before .before .before .before .before .before .before .pre in
     let b = c .before .before .before .loop .b in
     let inside = c .before .before .loop-test .taken in
-    (p .0, (lent-long z 6 b inside (g .codes .now) (p .1 .0), lent-long z 6 b inside (c .before .before .before .loop .to) (c .before .before .before .loop .inv .1 ∙ p .1 .1)))
+    (p .0, (row-long (c .before .before .before .before .channels .ensures) b inside (g .codes .now) (p .1 .0), row-long (c .before .before .before .before .channels .ensures) b inside (c .before .before .before .loop .to) (c .before .before .before .loop .inv .1 ∙ p .1 .1)))
 
 loop-again : tie.Need-loop-again Inv-loop μ-loop
 loop-again c =
-    let g = c .before .before .before .before .before .before .before .before .before .before .before .args in
-    let p = c .before .before .before .before .before .before .before .before .before .before .before .pre in
-    let z = 256 * g .track .channels in
+    let g = c .before .before .before .before .before .before .before .before .before .before .args in
+    let p = c .before .before .before .before .before .before .before .before .before .before .pre in
+    let z = 256 * c .before .before .before .before .before .before .before .channels .result in
     let b = c .before .before .before .before .before .before .loop .b in
     let inside = c .before .before .before .before .before .loop-test .taken in
     let to = c .before .before .before .before .before .before .loop .to in
-    let long = c .before .before .before .before .before .before .loop .inv .1 ∙ p .1 .1 in
-    let y = c .before .before .clean-row .last .1 .1 .1 .1 .0 in
-    let kept = c .before .before .clean-row .kept .1 .1 .1 .1 .0 in
-    let is = c .before .before .clean-row .ensures ∙ ap (cleanRow (g .sheet .now)) (row-lent (p .0) b (g .codes .now)) in
+    let long = buffer-held (c .before .before .before .before .before .before .before .channels .ensures) (c .before .before .before .before .before .before .loop .inv .1 ∙ p .1 .1) in
+    let y = c .before .before .clean-row .last .1 .1 .0 in
+    let kept = c .before .before .clean-row .kept .1 .1 .0 in
+    let is = c .before .before .clean-row .ensures ∙ ap (cleanRow (g .settings)) (row-lent (c .before .before .before .before .before .before .before .channels .ensures) b (g .codes .now)) in
     (omega (arith, inside), turn-length z 6 b inside to y long kept ∙ c .before .before .before .before .before .before .loop .inv .1, turn-more z 6 b inside to y long kept _ (c .before .before .before .before .before .before .loop .inv .2) is)
 
 same-length : tie.Need-same-length Inv-loop μ-loop
@@ -71,7 +70,7 @@ same-length c = c .before .loop .inv .1
 
 returns : tie.Need-returns Inv-loop μ-loop
 unfolding cleaned
-returns c = fill-end (256 * c .before .before .before .before .before .before .args .track .channels) (c .before .loop .b) 6 _ _ (omega arith) (omega arith) (c .before .loop .inv .2)
+returns c = fill-end (256 * c .before .before .channels .result) (c .before .loop .b) 6 _ _ (omega arith) (omega arith) (c .before .loop .inv .2)
 
 pub clean-codes-spec : {M : Type 1} → statement M
 clean-codes-spec =
@@ -79,7 +78,8 @@ clean-codes-spec =
     (tie.spec
     Inv-loop
     μ-loop
-    mul-n
+    (λ c κs. search needs)
+    mul-z
     loop-holds
     mul-a
     add-e

@@ -4,7 +4,7 @@ use Prim.Native.Nat.{ℕ, _≤_, _<_}
 use native.Mathlib.Omega.{arith}
 use borrow.Author.Needs.{needs}
 use borrow.Author.Tests.{le-leb, lt-leb}
-use Rattle.bits.specs.Answer.{gives, turnedBack}
+use Rattle.bits.specs.Answer.{gives, refused}
 use Rattle.bits.specs.Bytes.{bytesFor}
 use Rattle.bits.specs.Refusal as refusal
 use Rattle.bits.specs.WriteLaws.{output-stored, output-left}
@@ -12,11 +12,11 @@ use Rattle.lent_writer.specs.Alone.{fieldWritten}
 use Rattle.lent_writer.proofs.alone.write_alone.Statement.{statement}
 use Rattle.lent_writer.proofs.alone.write_alone.Tie as tie
 
-too-wide : (n size : ℕ) → 16 < n → turnedBack refusal.outOfRange ≡ fieldWritten n size
+too-wide : (n size : ℕ) → 16 < n → refused refusal.outOfRange ≡ fieldWritten n size
 unfolding fieldWritten
 too-wide n size h = rw (lt-leb n 16 h)
 
-no-room : (n size : ℕ) → n ≤ 16 → size < bytesFor n → turnedBack refusal.noRoom ≡ fieldWritten n size
+no-room : (n size : ℕ) → n ≤ 16 → size < bytesFor n → refused refusal.noRoom ≡ fieldWritten n size
 unfolding fieldWritten
 no-room n size h l = rw (le-leb n 16 h, lt-leb (bytesFor n) size l)
 

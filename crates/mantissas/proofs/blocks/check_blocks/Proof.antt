@@ -8,12 +8,13 @@ use Rattle.mantissas.specs.Stream.{bapsFit}
 use Rattle.mantissas.proofs.Joining.{fits-start, fits-more}
 use Rattle.mantissas.proofs.blocks.check_blocks.Statement.{statement}
 use Rattle.mantissas.proofs.blocks.check_blocks.Tie as tie
+use borrow.Author.Needs.{needs}
 
 abbrev Inv-loop : tie.InvT-loop
-Inv-loop bap channels ends all₀ block₀ all block = (all ≡ bapsFit (joined block (blockBaps channels ends bap))) × (block ≤ 6)
+Inv-loop bap settings all₀ block₀ all block = (all ≡ bapsFit (joined block (blockBaps settings bap))) × (block ≤ 6)
 
 abbrev μ-loop : tie.MeasureT-loop
-μ-loop bap channels ends all₀ block₀ all block = 6 - block
+μ-loop bap settings all₀ block₀ all block = 6 - block
 
 loop-holds : tie.Need-loop-holds Inv-loop μ-loop
 loop-holds c = (fits-start _, omega arith)
@@ -35,7 +36,7 @@ check-blocks-spec =
     μ-loop
     loop-holds
     check-block-requires
-    (λ c. omega arith)
-    (λ c. omega arith)
+    (λ c. search needs)
+    (λ c. search needs)
     loop-again
     returns)

@@ -10,13 +10,14 @@ use Rattle.mantissas.specs.Stream.{bitCount}
 use Rattle.mantissas.proofs.Joining.{below-joined}
 use Rattle.mantissas.proofs.blocks.count_blocks.Statement.{statement}
 use Rattle.mantissas.proofs.blocks.count_blocks.Tie as tie
+use borrow.Author.Needs.{needs}
 
 abbrev Inv-loop : tie.InvT-loop
-Inv-loop bap channels ends counts₀ block₀ counts block =
-    (take block counts ≡ tab block (λ b. bitCount (blockBaps channels ends bap b))) × (block ≤ 6) × (length counts ≡ 6)
+Inv-loop bap settings counts₀ block₀ counts block =
+    (take block counts ≡ tab block (λ b. bitCount (blockBaps settings bap b))) × (block ≤ 6) × (length counts ≡ 6)
 
 abbrev μ-loop : tie.MeasureT-loop
-μ-loop bap channels ends counts₀ block₀ counts block = 6 - block
+μ-loop bap settings counts₀ block₀ counts block = 6 - block
 
 loop-holds : tie.Need-loop-holds Inv-loop μ-loop
 loop-holds c = (tab-start _ (replicate 6 0), omega arith, refl)
@@ -40,9 +41,9 @@ count-blocks-spec =
     μ-loop
     loop-holds
     count-block-requires
-    (λ c. omega arith)
-    (λ c. omega arith)
-    (λ c. omega arith)
-    (λ c. omega arith)
+    (λ c. search needs)
+    (λ c. search needs)
+    (λ c. search needs)
+    (λ c. search needs)
     loop-again
     returns)
