@@ -7,5 +7,6 @@ pub mod Inner
 pub mod ShapedLaws
 pub mod GroupsLaws
 pub mod ReadingLaws
+pub mod ReadersLaws
 pub mod ReadShaped
 pub mod CallsLaws

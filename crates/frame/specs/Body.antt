@@ -32,6 +32,10 @@ bapPart settings c part = allocated (settings .common) (recordAt settings c) (en
 unfoldable pub bapRow : Settings → List ℕ → List ℕ
 bapRow settings row = joined (channels settings) (λ c. bapPart settings c (piece 256 c row))
 
+-- the bap of all six blocks, each the allocation of its block's exponents
+unfoldable pub bapsOf : Settings → List ℕ → List ℕ
+bapsOf settings exps = joined 6 (λ b. bapRow settings (rowOf settings b exps))
+
 -- all mantissas of a block by channel number and bin, one stream (A/52 7.3): a group runs on from channel to channel and never crosses
 -- blocks. Bins from an end on have bap 0 and no bits.
 unfoldable pub mantissaBits : Settings → List ℕ → List ℕ → List Bool

@@ -13,12 +13,11 @@ use Rattle.mantissas.specs.Stream.{stream, bitCount}
 use Rattle.sheet.specs.LegalSettings.{LegalSettings}
 use Rattle.sheet.specs.Settings.{channels}
 use Rattle.sheet.specs.declared.settings.Settings.{Settings}
-use Rattle.frame.specs.Body.{bapRow, mantissaBits, exponentCounts, mantissaCounts, countsOf}
+use Rattle.frame.specs.Body.{bapRow, mantissaBits, exponentCounts, mantissaCounts, countsOf, bapsOf}
 use Rattle.frame.specs.Layout.{rowOf}
 use Rattle.frame.specs.LayoutLaws.{length-row}
 use Rattle.frame.specs.Legal.{codesLegal}
 use Rattle.frame.specs.LegalLaws.{legal-codes}
-use Rattle.frame_rows.specs.Rows.{bapsOf}
 use Rattle.frame_rows.specs.RowsLaws.{row-baps}
 use Rattle.frame_body.specs.BelowLaws.{block-lows, lows-coded, lows-stream}
 use Rattle.frame_body.specs.Formula.{sets-count}

@@ -20,11 +20,10 @@ ghost use Rattle.mantissas.specs.Stream.{stream};
 ghost use Rattle.sheet.specs.LegalSettings.{LegalSettings};
 ghost use Rattle.sheet.specs.Ranges.{legalEnd};
 ghost use Rattle.sheet.specs.Settings.{channels};
-ghost use Rattle.frame.specs.Layout.{cleanRow};
-ghost use Rattle.frame.specs.Body.{setBits, setsBits, bapRow, blockBits, bodyBits};
+ghost use Rattle.frame.specs.Layout.{cleanRow, cleaned};
+ghost use Rattle.frame.specs.Body.{setBits, setsBits, bapRow, blockBits, bodyBits, bapsOf};
 ghost use Rattle.frame.specs.Legal.{LegalFrame};
 ghost use Rattle.frame.specs.Under.{Under, KnownSet};
-ghost use Rattle.frame_rows.specs.Rows.{bapsOf, cleaned};
 ghost use Rattle.frame_body.specs.Writing.{NewSet, NewSets, belowEnds};
 
 // A channel's exponents in a block: none where the block reuses the earlier ones.

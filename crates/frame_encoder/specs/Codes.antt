@@ -6,8 +6,9 @@ use lib.Ieee.{Float}
 use lib.ListN.{replicate}
 use Rattle.sheet.specs.Settings.{endAt}
 use Rattle.sheet.specs.declared.settings.Settings.{Settings}
-use Rattle.frame_rows.specs.Rows.{bapsOf}
-use Rattle.frame_runs.specs.Runs.{belowEnd, framed, expsOf}
+use Rattle.frame.specs.Body.{bapsOf}
+use Rattle.frame.specs.Layout.{belowEnd, framed}
+use Rattle.frame_runs.specs.Runs.{expsOf}
 use Rattle.quantiser.specs.Code.{codeOf}
 
 -- `quantise_mantissa` of each coefficient at that bin's exponent and bap

@@ -11,17 +11,15 @@ use Rattle.bits.specs.Parts.{piece}
 use Rattle.sheet.specs.Settings.{channels, endAt}
 use Rattle.sheet.specs.LegalSettings.{LegalSettings}
 use Rattle.sheet.specs.declared.settings.Settings.{Settings}
-use Rattle.frame.specs.Body.{bapPart}
-use Rattle.frame.specs.Layout.{rowOf}
+use Rattle.frame.specs.Body.{bapPart, bapsOf}
+use Rattle.frame.specs.Layout.{rowOf, belowEnd}
 use Rattle.frame.specs.LayoutLaws.{piece-bap}
 use Rattle.frame.specs.Under.{channel-known}
 use Rattle.frame_rows.specs.LegalLaws.{legal-low}
-use Rattle.frame_rows.specs.Rows.{bapsOf}
 use Rattle.frame_rows.specs.RowsLaws.{length-baps, row-baps}
 use Rattle.frame_runs.specs.Inner.{Encodable}
 use Rattle.frame_runs.specs.FiniteLaws.{finite-below}
 use Rattle.frame_runs.specs.FramedLaws.{below-row}
-use Rattle.frame_runs.specs.Runs.{belowEnd}
 use Rattle.frame_runs.specs.RunsLaws.{whole-below}
 use Rattle.mantissas.specs.RangesLaws.{row}
 use Rattle.quantiser.specs.Code.{codeOf}

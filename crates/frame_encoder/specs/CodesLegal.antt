@@ -8,15 +8,14 @@ use lib.Ieee.{Float}
 use lib.ListN.{length, take, drop, getD, replicate, length-append, length-drop, length-replicate, take-append-drop}
 use lib.Seq.{take-at, getD-drop}
 use Rattle.bits.specs.Parts.{joined, piece}
-use Rattle.frame.specs.Body.{bapPart, bapRow}
-use Rattle.frame.specs.Layout.{rowOf, clean, cleanRow}
+use Rattle.frame.specs.Body.{bapPart, bapRow, bapsOf}
+use Rattle.frame.specs.Layout.{rowOf, clean, cleanRow, belowEnd, cleaned}
 use Rattle.frame.specs.LayoutLaws.{length-bapPart}
 use Rattle.frame.specs.Legal.{codesLegal, LegalFrame}
-use Rattle.frame_rows.specs.Rows.{bapsOf, cleaned}
 use Rattle.frame_rows.specs.RowsLaws.{length-baps}
 use Rattle.frame_runs.specs.Inner.{Encodable}
 use Rattle.frame_runs.specs.FramedLaws.{length-framed, part-framed, row-framed-clean, framed-clean, below-row}
-use Rattle.frame_runs.specs.Runs.{belowEnd, expsOf}
+use Rattle.frame_runs.specs.Runs.{expsOf}
 use Rattle.frame_runs.specs.RunsLaws.{whole-below}
 use Rattle.frame_runs.specs.RunsLegal.{length-expsOf, expsOf-legal}
 use Rattle.mantissas.specs.CodedLaws.{coded-is}

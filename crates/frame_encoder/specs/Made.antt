@@ -8,7 +8,8 @@ use lib.ListN.{length, getD}
 use Rattle.sheet.specs.Settings.{channels}
 use Rattle.sheet.specs.declared.settings.Settings.{Settings}
 use Rattle.frame.specs.Legal.{expsLegal, LegalFrame}
-use Rattle.frame_rows.specs.Rows.{bapsOf, cleaned}
+use Rattle.frame.specs.Body.{bapsOf}
+use Rattle.frame.specs.Layout.{cleaned}
 use Rattle.frame_runs.specs.Finite.{finitePart}
 
 -- coefficients that can be coded: each is finite, with an exponent of at most 24 and a bap of at most 15

@@ -7,7 +7,7 @@ ghost use Rattle.sheet.specs.LegalSettings.{LegalSettings};
 ghost use Rattle.sheet.specs.Settings.{channels, settingsOf};
 ghost use Rattle.frame.specs.Answers.{bodyLeft};
 ghost use Rattle.frame.specs.Under.{Under};
-ghost use Rattle.frame_rows.specs.Rows.{bapsOf};
+ghost use Rattle.frame.specs.Body.{bapsOf};
 ghost use Rattle.frame_runs.specs.Inner.{Encodable};
 ghost use Rattle.frame_runs.specs.Runs.{expsOf};
 ghost use Rattle.frame_encoder.specs.Codes.{codesOf};

@@ -13,10 +13,9 @@ use Rattle.sheet.specs.Settings.{channels, endAt}
 use Rattle.sheet.specs.LegalSettings.{LegalSettings}
 use Rattle.sheet.specs.declared.settings.Settings.{Settings}
 use Rattle.frame.specs.Body.{setsBits, bapRow, mantissaBits, blockBits, bodyBits, exponentCounts, mantissaCounts, countsOf}
-use Rattle.frame.specs.Layout.{rowOf, clean, cleanRow}
+use Rattle.frame.specs.Layout.{rowOf, clean, cleanRow, cleaned}
 use Rattle.frame.specs.LayoutLaws.{clean-clean, end-inside, piece-clean, length-row}
 use Rattle.frame.specs.Legal.{codesLegal}
-use Rattle.frame_rows.specs.Rows.{cleaned}
 use Rattle.frame_rows.specs.RowsLaws.{row-cleaned}
 
 pub all-below-same : (n : ℕ) (f g : ℕ → Bool) → ((i : ℕ) → i < n → f i ≡ g i) → allBelow n f ≡ allBelow n g

@@ -12,12 +12,11 @@ use Rattle.sheet.specs.Settings.{channels}
 use Rattle.sheet.specs.LegalSettings.{ChannelCount, LegalSettings}
 use Rattle.sheet.specs.Sizes.{mostChannels, mostRow, mostBuffer}
 use Rattle.sheet.specs.declared.settings.Settings.{Settings}
-use Rattle.frame.specs.Body.{bapRow}
-use Rattle.frame.specs.Layout.{rowOf, clean, cleanRow}
+use Rattle.frame.specs.Body.{bapRow, bapsOf}
+use Rattle.frame.specs.Layout.{rowOf, clean, cleanRow, cleaned}
 use Rattle.frame.specs.LayoutLaws.{length-row, length-bapRow, length-cleanRow}
 use Rattle.frame_rows.specs.Inner.{noRow, noBuffer}
-use Rattle.frame_rows.specs.Rows.{bapsOf, cleaned}
-use Rattle.frame_rows.specs.Walks.{lent-long}
+use Rattle.bits.specs.Walks.{lent-long}
 
 -- ---- buffers that are all 0
 

@@ -18,13 +18,13 @@ use Rattle.sheet.specs.declared.record.ExponentSet.the-variants.{Reuse, New}
 use Rattle.sheet.specs.Settings.{channels, endAt, setAt}
 use Rattle.sheet.specs.LegalSettings.{LegalSettings}
 use Rattle.sheet.specs.declared.settings.Settings.{Settings}
-use Rattle.frame.specs.Layout.{rowOf}
+use Rattle.frame.specs.Layout.{rowOf, cleaned}
 use Rattle.frame.specs.Legal.{alike, partLegal, rowLegal, codesLegal}
 use Rattle.frame.specs.Reader.{earlier}
 use Rattle.frame.specs.Under.{channel-known}
 use Rattle.frame_rows.specs.CleanLaws.{all-below-same}
 use Rattle.frame_rows.specs.LegalLaws.{earlier-taken}
-use Rattle.frame_rows.specs.Rows.{bapsOf, cleaned}
+use Rattle.frame.specs.Body.{bapsOf}
 use Rattle.frame_rows.specs.RowsLaws.{row-baps, row-cleaned}
 use Rattle.frame_rows.specs.Tests.{rowsCoded, alikeFrom}
 

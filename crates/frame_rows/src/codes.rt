@@ -2,8 +2,7 @@
 ghost use mathlib.Core.Path.{_≡_};
 ghost use Prim.Native.Nat.{_*_, _≤_};
 ghost use lib.ListN.{length};
-ghost use Rattle.frame.specs.Layout.{clean, cleanRow};
-ghost use Rattle.frame_rows.specs.Rows.{cleaned};
+ghost use Rattle.frame.specs.Layout.{clean, cleanRow, cleaned};
 ghost use Rattle.sheet.specs.LegalSettings.{LegalSettings};
 ghost use Rattle.sheet.specs.Settings.{channels};
 use sheet::Settings;

@@ -8,7 +8,7 @@ use lib.Ieee.Scale.{finite}
 use Rattle.sheet.specs.Ranges.{allBelow}
 use Rattle.sheet.specs.Settings.{channels}
 use Rattle.sheet.specs.declared.settings.Settings.{Settings}
-use Rattle.frame_runs.specs.Runs.{belowEnd}
+use Rattle.frame.specs.Layout.{belowEnd}
 
 -- each of these is finite
 unfoldable pub finitePart : List Float → Bool

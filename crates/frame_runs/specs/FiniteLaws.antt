@@ -13,7 +13,7 @@ use Rattle.sheet.specs.Tests.{all-below}
 use Rattle.sheet.specs.Settings.{channels}
 use Rattle.sheet.specs.declared.settings.Settings.{Settings}
 use Rattle.frame_runs.specs.Finite.{finitePart, finiteRow, allFinite}
-use Rattle.frame_runs.specs.Runs.{belowEnd}
+use Rattle.frame.specs.Layout.{belowEnd}
 
 -- the coefficient at i
 pub finite-at : (xs : List Float) (i : ℕ) → finitePart xs ≡ true → i < length xs → T (finite (getD xs i nan))

@@ -8,12 +8,10 @@ use lib.ListN.{length, take, drop}
 use lib.Seq.{take-take, take-nil, drop-drop}
 use Rattle.bits.specs.Parts.{joined, piece}
 use Rattle.bits.specs.PartsLaws.{joined-cong, joined-length, piece-joined, within}
-use Rattle.frame.specs.Layout.{rowOf, clean, cleanRow}
-use Rattle.frame_rows.specs.Rows.{cleaned}
+use Rattle.frame.specs.Layout.{rowOf, clean, cleanRow, belowEnd, framed, cleaned}
 use Rattle.sheet.specs.Layout.{partStart}
 use Rattle.sheet.specs.Settings.{channels, endAt}
 use Rattle.sheet.specs.declared.settings.Settings.{Settings}
-use Rattle.frame_runs.specs.Runs.{belowEnd, framed}
 
 module _ (settings : Settings) (part : ℕ → ℕ → List ℕ) (long : (b c : ℕ) → b < 6 → c < channels settings → length (part b c) ≡ 256) where
   length-row : (b : ℕ) → b < 6 → length (joined (channels settings) (part b)) ≡ 256 * channels settings

@@ -5,7 +5,7 @@ use mathlib.Core.Path.{_≡_, refl, sym, ap, _∙_}
 use native.Mathlib.Omega.{arith}
 use lib.Ieee.{Float}
 use lib.ListN.{length, length-append, length-replicate}
-use Rattle.frame.specs.Layout.{bySet}
+use Rattle.frame.specs.Layout.{bySet, belowEnd}
 use Rattle.frame.specs.Under.{channel-known}
 use Rattle.shaping.specs.ShapedLaws.{length-preprocessed, length-quantised}
 use Rattle.sheet.specs.declared.record.ExponentSet.{ExponentSet}
@@ -13,7 +13,7 @@ use Rattle.sheet.specs.declared.record.ExponentSet.the-variants.{Reuse, New}
 use Rattle.sheet.specs.Settings.{channels, endAt, setAt}
 use Rattle.sheet.specs.LegalSettings.{LegalSettings}
 use Rattle.sheet.specs.declared.settings.Settings.{Settings}
-use Rattle.frame_runs.specs.Runs.{belowEnd, exponentsOf, leastOf, leastFrom, runLeast, runExponents, runPart, partAt}
+use Rattle.frame_runs.specs.Runs.{exponentsOf, leastOf, leastFrom, runLeast, runExponents, runPart, partAt}
 use Rattle.frame_runs.specs.RunsLaws.{whole-below}
 
 length-by-set : (set : ExponentSet) (reused : List ℕ) (new : ℕ → List ℕ) (n : ℕ) → length reused ≡ n → ((span : ℕ) → length (new span) ≡ n)

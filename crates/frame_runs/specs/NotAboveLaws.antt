@@ -16,7 +16,8 @@ use Rattle.sheet.specs.Settings.{channels, endAt, setAt}
 use Rattle.sheet.specs.LegalSettings.{LegalSettings}
 use Rattle.sheet.specs.declared.settings.Settings.{Settings}
 use Rattle.frame_runs.specs.FramedLaws.{below-row}
-use Rattle.frame_runs.specs.Runs.{belowEnd, exponentsOf, leastOf, leastFrom, runLeast, runExponents, runPart, partAt, expsOf}
+use Rattle.frame.specs.Layout.{belowEnd}
+use Rattle.frame_runs.specs.Runs.{exponentsOf, leastOf, leastFrom, runLeast, runExponents, runPart, partAt, expsOf}
 use Rattle.frame_runs.specs.RunsLaws.{whole-below}
 use Rattle.frame_runs.specs.RunsLegal.{run-taken, reuse-part, new-part, first-new, part-expsOf}
 

@@ -3,18 +3,12 @@
 use Prim.Native.Nat.{ℕ, zero, suc, _-_, min}
 use mathlib.Core.List.{List, [], _∷_, _++_}
 use lib.Ieee.{Float}
-use lib.ListN.{take, drop, replicate}
-use Rattle.bits.specs.Parts.{joined}
-use Rattle.frame.specs.Layout.{bySet}
+use lib.ListN.{replicate}
+use Rattle.frame.specs.Layout.{bySet, belowEnd, framed}
 use Rattle.shaping.specs.Extract.{exponentOf}
 use Rattle.shaping.specs.Passes.{preprocessed, quantised}
-use Rattle.sheet.specs.Layout.{partStart}
-use Rattle.sheet.specs.Settings.{channels, endAt, setAt}
+use Rattle.sheet.specs.Settings.{endAt, setAt}
 use Rattle.sheet.specs.declared.settings.Settings.{Settings}
-
--- a channel's entries of block b, "the bins below end"; they start where its part of the buffer does
-unfoldable pub belowEnd : {A : Type 0} → Settings → ℕ → ℕ → List A → List A
-belowEnd settings b c l = take (endAt settings c) (drop (partStart (channels settings) b c) l)
 
 -- "the extracted ones": `extract_exponent` of each coefficient
 unfoldable pub exponentsOf : List Float → List ℕ
@@ -50,10 +44,6 @@ runPart settings coeffs b c span = runExponents settings coeffs b c span ++ repl
 unfoldable pub partAt : Settings → List Float → ℕ → ℕ → List ℕ
 partAt settings coeffs zero c = bySet (setAt settings 0 c) (replicate 256 0) (runPart settings coeffs 0 c)
 partAt settings coeffs (suc b) c = bySet (setAt settings (suc b) c) (partAt settings coeffs b c) (runPart settings coeffs (suc b) c)
-
--- a buffer of 6 × C × 256 entries: six blocks, each of C parts
-unfoldable pub framed : Settings → (ℕ → ℕ → List ℕ) → List ℕ
-framed settings part = joined 6 (λ b. joined (channels settings) (part b))
 
 -- the exponents of all six blocks
 unfoldable pub expsOf : Settings → List Float → List ℕ

@@ -15,7 +15,8 @@ use Rattle.sheet.specs.declared.record.ExponentSet.the-variants.{Reuse, New}
 use Rattle.sheet.specs.Settings.{channels, endAt, setAt}
 use Rattle.sheet.specs.LegalSettings.{ChannelCount, ChannelEnd, LegalSettings}
 use Rattle.sheet.specs.declared.settings.Settings.{Settings}
-use Rattle.frame_runs.specs.Runs.{belowEnd, exponentsOf, leastOf, leastFrom, runLeast}
+use Rattle.frame.specs.Layout.{belowEnd}
+use Rattle.frame_runs.specs.Runs.{exponentsOf, leastOf, leastFrom, runLeast}
 
 -- ---- the entries of a channel's block below its end
 

@@ -9,13 +9,12 @@ use lib.Ieee.{Float}
 use lib.ListN.{length, take, replicate}
 use lib.Seq.{take-at}
 use Rattle.bits.specs.Parts.{piece}
-use Rattle.frame.specs.Layout.{rowOf, clean}
+use Rattle.frame.specs.Layout.{rowOf, clean, cleaned}
 use Rattle.frame.specs.Legal.{partLegal, rowLegal, expsLegal}
 use Rattle.frame.specs.LegalLaws.{alike-itself}
 use Rattle.frame.specs.Reader.{earlier}
 use Rattle.frame.specs.Under.{channel-known, known-set, one-of-two, by-reuse, by-new}
 use Rattle.frame_rows.specs.LegalLaws.{earlier-taken}
-use Rattle.frame_rows.specs.Rows.{cleaned}
 use Rattle.shaping.specs.Shaped.{shapedFor}
 use Rattle.shaping.specs.ShapedLaws.{run-shaped, shaped-of}
 use Rattle.sheet.specs.Tests.{all-hold}

@@ -19,7 +19,7 @@ use Rattle.frame.specs.Body.{bodyBits, countsOf, total}
 use Rattle.frame.specs.Legal.{expsLegal, codesLegal, LegalFrame}
 use Rattle.frame.specs.Theorems.{body-count}
 use Rattle.frame_rows.specs.CleanLaws.{cleaned-bits, cleaned-counts, cleaned-legal}
-use Rattle.frame_rows.specs.Rows.{cleaned}
+use Rattle.frame.specs.Layout.{cleaned}
 use Rattle.frame_rows.specs.RowsLaws.{length-cleaned}
 
 -- the settings are legal, and the buffers are of their length

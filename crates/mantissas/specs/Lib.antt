@@ -13,6 +13,7 @@ pub mod RangesLaws
 pub mod DigitsLaws
 pub mod StateLaws
 pub mod CodedLaws
+pub mod ReadersLaws
 pub mod ReadBack
 pub mod InRange
 pub mod Count

@@ -18,7 +18,7 @@ use Rattle.sheet.specs.Settings.{settingsOf, channels}
 use Rattle.sheet.specs.Sheet.{checkOf}
 use Rattle.frame.specs.Answers.{fits, writeAnswer}
 use Rattle.frame.specs.Legal.{expsLegal, codesLegal}
-use Rattle.frame_rows.specs.Rows.{cleaned}
+use Rattle.frame.specs.Layout.{cleaned}
 use Rattle.reconstruct.specs.Copy.{copyOf, allFit, copyUnder, copyNumber}
 use Rattle.reconstruct.specs.CopyLaws.{copy-same}
 use Rattle.promises.specs.Calls.{FrameUnder}

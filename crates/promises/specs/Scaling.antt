@@ -19,11 +19,12 @@ use Rattle.frame_encoder.specs.Codes.{codesOf}
 use Rattle.frame_encoder.specs.CodesLegal.{codesOf-at}
 use Rattle.frame_encoder.specs.Encode.{encodeAnswer}
 use Rattle.frame_encoder.specs.EncodeLaws.{fit-whole}
-use Rattle.frame_rows.specs.Rows.{bapsOf}
+use Rattle.frame.specs.Body.{bapsOf}
 use Rattle.frame_runs.specs.FiniteLaws.{finite-at, finite-below}
 use Rattle.frame_runs.specs.Inner.{Encodable}
 use Rattle.frame_runs.specs.NotAboveLaws.{exponent-not-above}
-use Rattle.frame_runs.specs.Runs.{belowEnd, expsOf}
+use Rattle.frame.specs.Layout.{belowEnd}
+use Rattle.frame_runs.specs.Runs.{expsOf}
 use Rattle.frame_runs.specs.RunsLaws.{at-below-end, whole-below}
 use Rattle.quantiser.specs.Code.{codeOf}
 use Rattle.quantiser.specs.Scale.{scaled}

@@ -14,14 +14,13 @@ use Rattle.tables.specs.Entry.{entry}
 use Rattle.sheet.specs.Settings.{channels, endAt}
 use Rattle.sheet.specs.LegalSettings.{ChannelCount, ChannelEnd, LegalSettings}
 use Rattle.sheet.specs.declared.settings.Settings.{Settings}
-use Rattle.frame.specs.Body.{bapPart, bapRow}
+use Rattle.frame.specs.Body.{bapPart, bapRow, bapsOf}
 use Rattle.frame.specs.Layout.{rowOf, cleanRow, SameBelowEnds}
 use Rattle.frame.specs.LayoutLaws.{length-part, length-row, piece-bap, bapPart-same, piece-clean, take-clean, end-inside}
 use Rattle.frame.specs.Legal.{LegalFrame}
 use Rattle.frame.specs.LegalLaws.{legal-codes}
 use Rattle.frame.specs.Under.{channel-known}
 use Rattle.frame_rows.specs.LegalLaws.{legal-low}
-use Rattle.frame_rows.specs.Rows.{bapsOf}
 use Rattle.frame_rows.specs.RowsLaws.{row-baps}
 use Rattle.reconstruct.specs.Bin.{reconstructed}
 use Rattle.reconstruct.specs.Copy.{copyBins, copyPart, copyRow, copyOf}

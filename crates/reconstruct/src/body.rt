@@ -6,7 +6,7 @@ ghost use Prim.Native.Nat.{_*_};
 ghost use lib.ListN.{length};
 ghost use Rattle.frame.specs.Legal.{expsLegal};
 ghost use Rattle.frame.specs.Under.{Under};
-ghost use Rattle.frame_rows.specs.Rows.{bapsOf};
+ghost use Rattle.frame.specs.Body.{bapsOf};
 ghost use Rattle.sheet.specs.LegalSettings.{LegalSettings};
 ghost use Rattle.sheet.specs.Settings.{channels, settingsOf};
 ghost use Rattle.reconstruct.specs.Copy.{flagsOf, levelsOf, copyUnder, copyNumber, copyLeft};

@@ -8,7 +8,7 @@ ghost use lib.ListN.{length};
 ghost use Rattle.sheet.specs.LegalSettings.{LegalSettings};
 ghost use Rattle.sheet.specs.Settings.{channels};
 ghost use Rattle.frame.specs.Legal.{LegalFrame};
-ghost use Rattle.frame_rows.specs.Rows.{bapsOf};
+ghost use Rattle.frame.specs.Body.{bapsOf};
 ghost use Rattle.reconstruct.specs.Bin.{flagOf, levelOf};
 ghost use Rattle.reconstruct.specs.Copy.{copyBins, copyPart, copyRow, flagsOf, levelsOf};
 ghost use Rattle.reconstruct.specs.Inner.{LegalBins, LegalRow};

@@ -11,7 +11,7 @@ use Rattle.bits.specs.WriteLaws.{turn-start, turn-ready, turn-put}
 use Rattle.frame.specs.Body.{setBits, setsBits}
 use Rattle.frame.specs.Under.{channel-known, held-set, held-known}
 use Rattle.frame_rows.specs.RowsLaws.{channel-there, row-held}
-use Rattle.frame_rows.specs.Walks.{lent-is, lent-long}
+use Rattle.bits.specs.Walks.{lent-is, lent-long}
 use native.Mathlib.Omega.{arith}
 use borrow.Author.Needs.{needs}
 use Rattle.frame_body.proofs.write.put_sets.Statement.{statement}

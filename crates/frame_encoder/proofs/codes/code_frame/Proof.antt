@@ -8,8 +8,8 @@ use Rattle.bits.specs.Parts.{joined}
 use Rattle.bits.specs.PartsLaws.{fill-start, fill-end}
 use Rattle.sheet.specs.Settings.{channels}
 use Rattle.frame_rows.specs.RowsLaws.{row-long, row-inside, buffer-held}
-use Rattle.frame_rows.specs.Walks.{turn-length, turn-more}
-use Rattle.frame_runs.specs.Runs.{framed}
+use Rattle.bits.specs.Walks.{turn-length, turn-more}
+use Rattle.frame.specs.Layout.{framed}
 use Rattle.frame_encoder.specs.Codes.{codePart, codesAt}
 use Rattle.frame_encoder.proofs.codes.code_frame.Statement.{statement}
 use Rattle.frame_encoder.proofs.codes.code_frame.Tie as tie

@@ -8,7 +8,7 @@ use Rattle.bits.specs.Parts.{joined}
 use Rattle.bits.specs.PartsLaws.{fill-start, fill-end}
 use Rattle.sheet.specs.Settings.{channels}
 use Rattle.frame_rows.specs.RowsLaws.{channel-there, row-held, length-baps}
-use Rattle.frame_rows.specs.Walks.{lent-long, turn-length, turn-more}
+use Rattle.bits.specs.Walks.{lent-long, turn-length, turn-more}
 use Rattle.frame_runs.specs.RunsLaws.{below-fits, below-lent, whole-below}
 use Rattle.frame_encoder.specs.Codes.{codePart}
 use Rattle.frame_encoder.specs.CodesLaws.{codable-part, part-is}

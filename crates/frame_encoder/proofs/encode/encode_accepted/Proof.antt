@@ -9,8 +9,7 @@ use Rattle.sheet.specs.LegalSettings.{ChannelCount}
 use Rattle.sheet.specs.Settings.{channels}
 use Rattle.sheet.specs.declared.settings.Settings.{Settings}
 use Rattle.frame.specs.Answers.{bodyLeft}
-use Rattle.frame.specs.Body.{bodyBits}
-use Rattle.frame_rows.specs.Rows.{bapsOf}
+use Rattle.frame.specs.Body.{bodyBits, bapsOf}
 use Rattle.frame_rows.specs.Inner.{noBuffer}
 use Rattle.frame_rows.specs.RowsLaws.{length-noBuffer, front-lent, front-room, front-filled}
 use Rattle.frame_runs.specs.Runs.{expsOf}

@@ -8,7 +8,7 @@ use Rattle.bits.specs.Field.{bitsOf}
 use Rattle.bits.specs.FieldLaws.{length-bitsOf}
 use Rattle.sheet.specs.Settings.{channels}
 use Rattle.frame_rows.specs.RowsLaws.{row-inside, buffer-held, row-long}
-use Rattle.frame_rows.specs.Walks.{turn-length}
+use Rattle.bits.specs.Walks.{turn-length}
 use Rattle.frame_reader.proofs.SixBlocks.{BlocksRead, blocks-start, frame-fault, blocks-more, frame-good}
 use Rattle.frame_reader.proofs.blocks.get_blocks.Statement.{statement}
 use Rattle.frame_reader.proofs.blocks.get_blocks.Tie as tie

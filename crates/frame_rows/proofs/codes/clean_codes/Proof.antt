@@ -6,10 +6,9 @@ use lib.ListN.{length, take}
 use borrow.Author.Needs.{needs}
 use Rattle.bits.specs.Parts.{joined}
 use Rattle.bits.specs.PartsLaws.{fill-start, fill-end}
-use Rattle.frame.specs.Layout.{rowOf, cleanRow}
-use Rattle.frame_rows.specs.Rows.{cleaned}
+use Rattle.frame.specs.Layout.{rowOf, cleanRow, cleaned}
 use Rattle.frame_rows.specs.RowsLaws.{row-long, row-lent, row-inside, buffer-held}
-use Rattle.frame_rows.specs.Walks.{turn-length, turn-more}
+use Rattle.bits.specs.Walks.{turn-length, turn-more}
 use Rattle.frame_rows.proofs.codes.clean_codes.Statement.{statement}
 use Rattle.frame_rows.proofs.codes.clean_codes.Tie as tie
 

@@ -10,7 +10,7 @@ use Rattle.bits.specs.Parts.{joined, piece}
 use Rattle.bits.specs.PartsLaws.{fill-start, fill-end}
 use Rattle.frame.specs.Layout.{clean, cleanRow}
 use Rattle.frame_rows.specs.RowsLaws.{row-held}
-use Rattle.frame_rows.specs.Walks.{lent-is, lent-long, turn-length, turn-more}
+use Rattle.bits.specs.Walks.{lent-is, lent-long, turn-length, turn-more}
 use Rattle.frame_rows.proofs.codes.clean_row.Statement.{statement}
 use Rattle.frame_rows.proofs.codes.clean_row.Tie as tie
 

@@ -10,7 +10,7 @@ use Rattle.sheet.specs.Ranges.{allBelow}
 use Rattle.bits.specs.Parts.{piece}
 use Rattle.frame.specs.Layout.{rowOf}
 use Rattle.frame_rows.specs.RowsLaws.{row-inside, buffer-held}
-use Rattle.frame_rows.specs.Walks.{lent-is, lent-long}
+use Rattle.bits.specs.Walks.{lent-is, lent-long}
 use Rattle.frame_rows.specs.Tests.{rowsCoded}
 use Rattle.frame_rows.proofs.legal.codes_legal.Statement.{statement}
 use Rattle.frame_rows.proofs.legal.codes_legal.Tie as tie

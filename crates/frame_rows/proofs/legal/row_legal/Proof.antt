@@ -11,7 +11,7 @@ use Rattle.sheet.specs.Ranges.{allBelow}
 use Rattle.frame.specs.Legal.{partLegal, rowLegal}
 use Rattle.frame.specs.Under.{held-set, held-known}
 use Rattle.frame_rows.specs.RowsLaws.{row-held}
-use Rattle.frame_rows.specs.Walks.{lent-is, lent-long}
+use Rattle.bits.specs.Walks.{lent-is, lent-long}
 use Rattle.frame_rows.proofs.legal.row_legal.Statement.{statement}
 use Rattle.frame_rows.proofs.legal.row_legal.Tie as tie
 

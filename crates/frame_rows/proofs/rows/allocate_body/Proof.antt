@@ -10,13 +10,12 @@ use borrow.Author.Needs.{needs}
 use Rattle.bits.specs.Parts.{joined}
 use Rattle.bits.specs.PartsLaws.{fill-start, fill-end}
 use Rattle.sheet.specs.Sizes.{mostRow}
-use Rattle.frame.specs.Body.{bapRow}
+use Rattle.frame.specs.Body.{bapRow, bapsOf}
 use Rattle.frame.specs.Layout.{rowOf}
 use Rattle.frame_rows.specs.LegalLaws.{legal-low, kept-first, kept-next}
-use Rattle.frame_rows.specs.Rows.{bapsOf}
 use Rattle.frame_rows.specs.Inner.{KeptBap}
 use Rattle.frame_rows.specs.RowsLaws.{row-long, length-noRow, back-length, back-whole, back-taken, row-lent, row-inside, buffer-held}
-use Rattle.frame_rows.specs.Walks.{lent-long, turn-length, turn-more}
+use Rattle.bits.specs.Walks.{lent-long, turn-length, turn-more}
 use Rattle.frame_rows.proofs.rows.allocate_body.Statement.{statement}
 use Rattle.frame_rows.proofs.rows.allocate_body.Tie as tie
 

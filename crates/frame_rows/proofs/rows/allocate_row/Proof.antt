@@ -10,7 +10,7 @@ use Rattle.bits.specs.PartsLaws.{fill-start, fill-end}
 use Rattle.frame.specs.Body.{bapPart, bapRow}
 use Rattle.frame.specs.Under.{held-set}
 use Rattle.frame_rows.specs.RowsLaws.{channel-there, row-held}
-use Rattle.frame_rows.specs.Walks.{lent-is, lent-long, lent-old, turn-length, turn-more, turn-rest}
+use Rattle.bits.specs.Walks.{lent-is, lent-long, lent-old, turn-length, turn-more, turn-rest}
 use Rattle.frame_rows.proofs.rows.allocate_row.Statement.{statement}
 use Rattle.frame_rows.proofs.rows.allocate_row.Tie as tie
 

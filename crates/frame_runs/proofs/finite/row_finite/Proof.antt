@@ -6,7 +6,7 @@ use borrow.Author.Needs.{needs}
 use Rattle.sheet.specs.Settings.{channels}
 use Rattle.sheet.specs.Ranges.{allBelow}
 use Rattle.frame_runs.specs.Finite.{finitePart, finiteRow}
-use Rattle.frame_runs.specs.Runs.{belowEnd}
+use Rattle.frame.specs.Layout.{belowEnd}
 use Rattle.frame_runs.specs.RunsLaws.{below-fits, below-lent}
 use Rattle.frame_runs.proofs.Tests.{all-more, all-end}
 use Rattle.frame_runs.proofs.finite.row_finite.Statement.{statement}

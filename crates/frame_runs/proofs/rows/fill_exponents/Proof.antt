@@ -12,7 +12,8 @@ use Rattle.sheet.specs.Sizes.{mostRow}
 use Rattle.frame_rows.specs.RowsLaws.{length-noRow, buffer-held}
 use Rattle.frame_runs.specs.Carried.{rowAt, rowBefore}
 use Rattle.frame_runs.specs.CarriedLaws.{carried-first, carried-on}
-use Rattle.frame_runs.specs.Runs.{expsOf, framed}
+use Rattle.frame.specs.Layout.{framed}
+use Rattle.frame_runs.specs.Runs.{expsOf}
 use Rattle.frame_runs.proofs.rows.fill_exponents.Statement.{statement}
 use Rattle.frame_runs.proofs.rows.fill_exponents.Tie as tie
 

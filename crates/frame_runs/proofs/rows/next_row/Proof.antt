@@ -8,7 +8,7 @@ use Rattle.sheet.specs.Settings.{channels}
 use Rattle.bits.specs.Parts.{joined, piece}
 use Rattle.bits.specs.PartsLaws.{fill-start, fill-end}
 use Rattle.frame_rows.specs.RowsLaws.{channel-there, row-held}
-use Rattle.frame_rows.specs.Walks.{lent-long, lent-old, turn-length, turn-more, turn-rest}
+use Rattle.bits.specs.Walks.{lent-long, lent-old, turn-length, turn-more, turn-rest}
 use Rattle.frame_runs.specs.Carried.{nextPart, nextRow}
 use Rattle.frame_runs.proofs.rows.next_row.Statement.{statement}
 use Rattle.frame_runs.proofs.rows.next_row.Tie as tie

@@ -6,7 +6,7 @@ use borrow.Author.Needs.{needs}
 use Rattle.bits.specs.Tests.{passed, failed}
 use Rattle.frame.specs.AnswersLaws.{body-refused}
 use Rattle.frame.specs.Legal.{LegalFrame}
-use Rattle.frame_rows.specs.Rows.{cleaned}
+use Rattle.frame.specs.Layout.{cleaned}
 use Rattle.frame_rows.specs.RowsLaws.{length-noBuffer, front-lent, front-length, front-room, front-filled}
 use Rattle.frame_rows.specs.CleanLaws.{cleaned-again, cleaned-bits, cleaned-legal}
 use Rattle.frame_writer.specs.AnswersLaws.{Sized, write-bad-codes, write-cleaned}

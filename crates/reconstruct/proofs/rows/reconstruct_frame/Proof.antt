@@ -9,7 +9,7 @@ use Rattle.bits.specs.Parts.{joined}
 use Rattle.bits.specs.PartsLaws.{fill-start, fill-end}
 use Rattle.frame.specs.Layout.{rowOf}
 use Rattle.frame_rows.specs.RowsLaws.{row-inside, row-lent, length-baps, buffer-held}
-use Rattle.frame_rows.specs.Walks.{lent-long, turn-length, turn-more}
+use Rattle.bits.specs.Walks.{lent-long, turn-length, turn-more}
 use Rattle.reconstruct.specs.Bin.{flagOf, levelOf}
 use Rattle.reconstruct.specs.Copy.{copyRow, flagsOf, levelsOf}
 use Rattle.reconstruct.specs.CopyLaws.{row-legal, frame-made}

@@ -9,7 +9,7 @@ use Rattle.bits.specs.Parts.{joined}
 use Rattle.bits.specs.PartsLaws.{fill-start, fill-end}
 use Rattle.frame.specs.LayoutLaws.{length-bapRow}
 use Rattle.frame_rows.specs.RowsLaws.{channel-there, row-held}
-use Rattle.frame_rows.specs.Walks.{lent-long, turn-length, turn-more}
+use Rattle.bits.specs.Walks.{lent-long, turn-length, turn-more}
 use Rattle.reconstruct.specs.Bin.{flagOf, levelOf}
 use Rattle.reconstruct.specs.CopyLaws.{part-lent, part-room, part-legal, length-below, end-most, rowPart, row-part, row-made}
 use Rattle.reconstruct.proofs.rows.reconstruct_row.Statement.{statement}
