@@ -7,7 +7,7 @@ use excitation::LeakParameters;
 use sheet::{ChannelRecord, Common};
 
 // The floor is 2048 up, the offset 960 up: neither is negative then.
-#[derive(Drop)]
+#[derive(Clone, Copy)]
 pub struct Parameters {
     pub leak: LeakParameters,
     pub dbknee: u32,

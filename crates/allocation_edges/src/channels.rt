@@ -24,7 +24,7 @@ pub const FGAINCOD: usize = 8;
 // Codes from which each other value of one of them gives another allocation (codes.rt).
 pub const BASE: [u8; 9] = [1, 2, 0, 0, 1, 7, 28, 14, 6];
 
-#[derive(Drop)]
+#[derive(Clone, Copy)]
 pub struct Segments {
     pub nseg: u8,
     pub offst: [u8; 8],

@@ -1,6 +1,6 @@
 // The exponents of a case: by a rule, with one of them changed.
 
-#[derive(Drop)]
+#[derive(Clone, Copy)]
 pub struct Exponents {
     pub rule: u8,
     pub value: u8,

@@ -7,7 +7,7 @@ ghost use Rattle.edges.specs.declared.tables_printed.Table.TheVariants.{Level};
 use crate::print::{put_decimal, put_hex, put_text, write_line};
 
 // Which table an entry is read from: HTH by its fscod, the levels by their bap.
-#[derive(Drop)]
+#[derive(Clone, Copy)]
 pub enum Table {
     Slowdec,
     Fastdec,

@@ -1,5 +1,6 @@
 // The program of document 01: a track sheet and coefficients on standard input; the exponent and mantissa bits of the six blocks and
 // their sum on standard output, or the number of the refusal.
+#![tactic(auto)]
 
 fn line(block: u64, exponent_bits: u32, mantissa_bits: u32) {
     io::write_all(1, b"block ");

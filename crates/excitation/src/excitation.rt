@@ -7,7 +7,7 @@ ghost use Rattle.excitation.specs.Held.{next_lowcomp, start, stepped};
 use crate::number::{less, most};
 
 // Four parameters of A/52 7.2.2.1.
-#[derive(Drop)]
+#[derive(Clone, Copy)]
 pub struct LeakParameters {
     pub sdecay: u32,
     pub fdecay: u32,
@@ -16,7 +16,7 @@ pub struct LeakParameters {
 }
 
 // What a band leaves to the next one, and its excitation. `begun`: the next band is at `begin` or past it.
-#[derive(Drop)]
+#[derive(Clone, Copy)]
 pub struct LeakState {
     pub lowcomp: u32,
     pub fastleak: u32,

@@ -1,5 +1,7 @@
 // From a channel's exponents to the excitations of its bands: the psds of the bins, joined in bands (A/52 7.2.2.2, 7.2.2.3), and the
 // excitation (7.2.2.4).
+#![tactic(auto)]
+
 pub mod excitation;
 pub mod excite;
 pub mod number;

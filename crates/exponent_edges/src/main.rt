@@ -1,5 +1,7 @@
 // The edges of the exponent steps, document 01, "Exponents" and "Edges": a line for each case, with its parameters, the number of the
 // answer, and what is left in the buffer. What must be printed is worked out by scripts/exponent-edges-stdout, from document 01 and the Rust.
+#![tactic(auto)]
+
 pub mod cases;
 pub mod codes;
 pub mod picks;

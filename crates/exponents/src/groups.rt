@@ -14,7 +14,7 @@ pub fn group_count(end: usize, grpsize: usize) -> usize
 }
 
 // A coded span: its exponent, and the difference from the one before it, plus 2.
-#[derive(Drop)]
+#[derive(Clone, Copy)]
 pub struct CodedSpan {
     pub exponent: u8,
     pub delta: u32,

@@ -1,4 +1,6 @@
 // The exponent set on bits (A/52 7.1.3): its writer and its reader.
+#![tactic(auto)]
+
 pub mod groups;
 pub mod limits;
 pub mod read;

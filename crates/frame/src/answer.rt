@@ -3,7 +3,7 @@ ghost use Rattle.std.specs.Prelude.{◌≡◌};
 ghost use Rattle.frame.specs.Answers.{refused};
 
 // The refusal's number or 0; six exponent counts, then six mantissa counts; the bits of the body, as written or as read.
-#[derive(Drop)]
+#[derive(Clone, Copy)]
 pub struct FrameAnswer {
     pub refusal: u32,
     pub counts: [u32; 12],

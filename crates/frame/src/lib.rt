@@ -1,4 +1,6 @@
 // The frame body of document 01, "The frame body": what all of its functions share.
+#![tactic(auto)]
+
 pub mod answer;
 
 pub use answer::{FrameAnswer, refused};

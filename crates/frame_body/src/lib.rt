@@ -1,4 +1,6 @@
 // The bits of a frame's body and their counts (document 01, "The frame body").
+#![tactic(auto)]
+
 pub mod count;
 pub mod gather;
 pub mod write;

@@ -1,4 +1,6 @@
 // `encode_body`: a frame's coefficients to the bits of its body (document 01, "The frame body").
+#![tactic(auto)]
+
 pub mod codes;
 pub mod deliver;
 pub mod encode;

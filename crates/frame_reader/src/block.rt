@@ -10,7 +10,7 @@ use bits::refusal::ACCEPTED;
 use sheet::{BlockSet, MOST_CHANNELS, Settings};
 
 // How a block's reading ended: the fault's number (`ACCEPTED` for none), the position after it, and how many bits its sets and its mantissas took.
-#[derive(Drop)]
+#[derive(Clone, Copy)]
 pub struct BlockEnd {
     pub fault: u32,
     pub pos: usize,

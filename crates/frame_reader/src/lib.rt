@@ -1,4 +1,6 @@
 // The reader of a frame's body (document 01, "The frame body", "When a call is turned back").
+#![tactic(auto)]
+
 pub mod block;
 pub mod blocks;
 pub mod body;

@@ -1,4 +1,6 @@
 // The exponents of a frame, from its coefficients (document 01, "The frame body"), and the test that these are finite.
+#![tactic(auto)]
+
 pub mod finite;
 pub mod part;
 pub mod rows;

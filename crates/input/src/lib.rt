@@ -1,4 +1,6 @@
 // What the program of document 01 answers to its input: a track sheet, then coefficients by their bit patterns.
+#![tactic(auto)]
+
 pub mod coefficients;
 pub mod program;
 

@@ -1,4 +1,6 @@
 // The writer lent by `&mut` (document 01: "each field written moves the writer's position and pending bits together").
+#![tactic(auto)]
+
 pub mod alone;
 pub mod lent;
 

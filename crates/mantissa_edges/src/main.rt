@@ -1,5 +1,7 @@
 // The edges of the mantissa steps, document 01, "Mantissas" and "Edges": a line for each case, with the refusal's number and what it gave.
 // What must be printed is worked out by scripts/mantissa-edges-stdout, from document 01 and the Rust.
+#![tactic(auto)]
+
 pub mod blocks;
 pub mod coefficients;
 pub mod large;

@@ -15,7 +15,7 @@ use bits::refusal::{ACCEPTED, BAD_CODE, WRONG_LENGTH};
 use sheet::Settings;
 
 // The refusal's number, and the mantissa bits of each block.
-#[derive(Drop)]
+#[derive(Clone, Copy)]
 pub struct MantissaBits {
     pub refusal: u32,
     pub counts: [u32; 6],

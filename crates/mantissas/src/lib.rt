@@ -1,4 +1,6 @@
 // The mantissa stream of A/52 7.3: the ranges of the codes, the writer, the reader, and the count of bits.
+#![tactic(auto)]
+
 pub mod blocks;
 pub mod code;
 pub mod count;

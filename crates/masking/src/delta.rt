@@ -4,7 +4,7 @@ ghost use Rattle.excitation.specs.Front.{front};
 ghost use Rattle.masking.specs.Held.{added_at, first_place, following, held_delta, held_deltas, Stands};
 
 // The bands of the segment that covers a band or comes next, what it adds (512 up), and the number of the one after it.
-#[derive(Drop)]
+#[derive(Clone, Copy)]
 pub struct Place {
     pub next: usize,
     pub start: usize,

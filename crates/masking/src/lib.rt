@@ -1,4 +1,6 @@
 // The masking curve of A/52 7.2.2.5 and 7.2.2.6: the hearing threshold, the knee and the delta segments.
+#![tactic(auto)]
+
 pub mod delta;
 pub mod number;
 pub mod threshold;

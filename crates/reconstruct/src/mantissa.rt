@@ -8,14 +8,14 @@ use bits::refusal::{ACCEPTED, BAD_CODE, BAD_EXPONENT};
 use quantiser::scale::power_f32;
 
 // A bin has no value (bap 0), or a level.
-#[derive(Drop)]
+#[derive(Clone, Copy)]
 pub enum Reconstructed {
     Silent,
     Level(f32),
 }
 
 // The refusal's number or 0, and the bin, silent where it is refused.
-#[derive(Drop)]
+#[derive(Clone, Copy)]
 pub struct BinAnswer {
     pub refusal: u32,
     pub bin: Reconstructed,

@@ -5,7 +5,7 @@ ghost use Rattle.std.specs.Float.Ieee.{round};
 ghost use Rattle.reconstruct.specs.Inner.{value_of, symmetric_of, asymmetric_of};
 
 // A sign, a size and what it is over.
-#[derive(Drop)]
+#[derive(Clone, Copy)]
 pub struct Fraction {
     pub negative: bool,
     pub size: u32,

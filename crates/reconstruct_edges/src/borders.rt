@@ -6,7 +6,7 @@ use crate::choice::plus;
 use crate::show;
 
 // How often the last code is taken, and how often the one past it is refused with 5.
-#[derive(Drop)]
+#[derive(Clone, Copy)]
 pub struct Borders {
     pub taken: u32,
     pub refused: u32,

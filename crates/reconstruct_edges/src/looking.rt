@@ -6,7 +6,7 @@ use crate::show;
 use reconstruct::{flag_of, level_of, reconstruct_mantissa};
 
 // How many bins differ from the bin alone, and how many entries from an end on are not 0; how many bins are silent, and have a level.
-#[derive(Drop)]
+#[derive(Clone, Copy)]
 pub struct Met {
     pub differing: u32,
     pub beyond: u32,

@@ -1,5 +1,7 @@
 // The edges of the listening copy, document 02, W3: a line for each case, with the refusal's number and what it gave.
 // What must be printed is worked out by scripts/reconstruct-edges-stdout, from documents 01 and 02.
+#![tactic(auto)]
+
 pub mod bins;
 pub mod borders;
 pub mod choice;

@@ -8,7 +8,7 @@ use crate::{
 };
 
 // Up to four arguments (an end, a span, a length, a pattern), then what is expected: the refusal and the value.
-#[derive(Drop)]
+#[derive(Clone, Copy)]
 pub struct Case {
     pub call: u32,
     pub first: u32,
@@ -20,7 +20,7 @@ pub struct Case {
 }
 
 // What came of a record of the list.
-#[derive(Drop)]
+#[derive(Clone, Copy)]
 pub struct Outcome {
     pub state: u32,
     pub call: usize,

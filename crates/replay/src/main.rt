@@ -1,6 +1,8 @@
 // Replays a fixed list of the Rust's answers: each case of the list is handed to the public call that it is for, and the refusal, the
 // values and every buffer afterwards are compared with what the Rust gave. A line for each call says how many cases were run and how many
 // differed. The list is on standard input; scripts/make-replay makes it and says its form.
+#![tactic(auto)]
+
 pub mod allocation_steps;
 pub mod calls;
 pub mod cases;

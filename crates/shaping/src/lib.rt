@@ -1,4 +1,6 @@
 // Exponents of coefficients, shaped for a strategy (document 01, "Exponents"; A/52 7.1).
+#![tactic(auto)]
+
 pub mod d15;
 pub mod extract;
 pub mod finite;

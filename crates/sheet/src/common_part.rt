@@ -4,7 +4,7 @@ ghost use Rattle.sheet.specs.Common.{common_of, channels_of, common_in_range};
 
 use crate::read::{byte_at, wide};
 
-#[derive(Drop)]
+#[derive(Clone, Copy)]
 pub struct Common {
     pub fscod: u8,
     // The number of full-bandwidth channels.

@@ -1,4 +1,6 @@
 // The track sheet of document 01: its check, its values by value, and where each channel's part of a buffer stands.
+#![tactic(auto)]
+
 pub mod check;
 pub mod common_part;
 pub mod layout;

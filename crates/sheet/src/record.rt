@@ -13,19 +13,19 @@ ghost use Rattle.sheet.specs.Record.{
 use crate::read::{HEAD_SIZE, byte_at, record_end};
 
 // The exponents of a block: those of the block before, or a new set with its span.
-#[derive(Drop)]
+#[derive(Clone, Copy)]
 pub enum ExponentSet {
     Reuse,
     New(u8),
 }
 
-#[derive(Drop)]
+#[derive(Clone, Copy)]
 pub struct BlockSet {
     pub set: ExponentSet,
 }
 
 // The segments that are not there are 0.
-#[derive(Drop)]
+#[derive(Clone, Copy)]
 pub struct ChannelRecord {
     pub channel: u8,
     pub end: u8,

@@ -12,7 +12,7 @@ use crate::read::wide;
 use crate::record::{BlockSet, ChannelRecord, ExponentSet, record_of};
 
 // The records by channel number; that of a channel which is not there is all 0.
-#[derive(Drop)]
+#[derive(Clone, Copy)]
 pub struct Settings {
     pub common: Common,
     pub records: [ChannelRecord; MOST_RECORDS],

@@ -1,5 +1,7 @@
 // The edges of the sheet check, document 01, "The track sheet" and "Edges", and document 02, W1: a line for each case, with the number of
 // the answer. What must be printed is worked out by scripts/sheet-edges-stdout, from these documents alone.
+#![tactic(auto)]
+
 pub mod channels;
 pub mod order;
 pub mod sheets;

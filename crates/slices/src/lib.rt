@@ -1,4 +1,6 @@
 // Slices that are filled with one value or copied, for every layer above.
+#![tactic(auto)]
+
 pub mod copying;
 pub mod filling;
 

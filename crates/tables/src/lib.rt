@@ -2,6 +2,8 @@
 // Whoever reads a table wants few casts, so: what a track sheet or a buffer holds as a byte (the codes of the sheet, fscod, bap) is
 // taken as a u8, a mantissa's code as a u16; a bin, a band and an address are a usize, since they index slices too.
 // An entry is a u8 where all of its table fit one, else a u16; a level is an f32.
+#![tactic(auto)]
+
 pub mod bands;
 pub mod hearing;
 pub mod log_addition;

@@ -1,0 +1,17 @@
+-- All bins before the present one have their pointers.
+use Prim.Native.Nat.{◌-◌, ◌≤◌}
+use mathlib.Core.Path.{◌≡◌, refl, ap, ◌∙◌}
+use native.Mathlib.Omega.{arith}
+use lib.ListN.{length, take, length-set}
+use Rattle.bits.specs.Parts.{tab}
+use Rattle.bits.specs.PartsLaws.{tab-start, tab-more}
+use Rattle.tables.specs.Rules.{masktab-one}
+use Rattle.allocation.specs.Held.{bap_from}
+use Rattle.allocation.proofs.Filling.{length-baptab, held-read, from-base}
+use Rattle.allocation.proofs.bap.fill_few.Given as goal
+
+abbrev pub invariant-loop-bin : goal.invariant-loop-bin
+invariant-loop-bin l = (take l.bin l.bap ≡ tab l.bin (bap_from l.bases l.exp)) × (l.bin ≤ l.bins) × (length l.bap ≡ length l.initial.bap)
+
+abbrev pub decreases-loop-bin : goal.decreases-loop-bin
+decreases-loop-bin l = l.bins - l.bin

@@ -1,0 +1,8 @@
+-- The three tests as they are.
+use borrow.Author.Rules.{rules}
+use Rattle.allocation.specs.Allocation.{in_range}
+use Rattle.allocation.proofs.ranges.in_range.Goals as goal
+
+pub returns : goal.returns
+unfolding in_range
+returns c = cc

@@ -1,0 +1,44 @@
+use Prim.Native.Nat.{◌+◌, ◌-◌, ◌≤◌}
+use mathlib.Core.Path.{◌≡◌}
+use native.Mathlib.Omega.{arith}
+use Rattle.excitation.specs.FrontLaws.{front-begin}
+use Rattle.excitation.proofs.Exciting.{Excited, excited-begun, excited-more, excited-most}
+use Rattle.excitation.proofs.excite.excite_low.Goals as goal
+
+pub loop-band-init : goal.loop-band-init
+loop-band-init c =
+    let r = c.requires in
+    (omega arith, omega arith, record { leaks-are = r.leaks_value; filled = front-begin _ _ _ r.excites_value; long = r.powers_len.1 })
+
+pub overflow_cast-powers : goal.overflow_cast-powers
+overflow_cast-powers c = omega (arith, c.requires.by_index c.loop-band.band)
+
+pub overflow_cast-powers-in-loop-band : goal.overflow_cast-powers-in-loop-band
+overflow_cast-powers-in-loop-band c = omega (arith, c.requires.by_index (c.loop-band.band + 1))
+
+pub low_leaks-leaks-requires : goal.low_leaks-leaks-requires
+low_leaks-leaks-requires c =
+    let l = c.loop-band.invariant in
+    let r = c.requires.by_index in
+    (r _, r _, l.0, c.loop-band-test.true, excited-begun _ _ _ _ _ _ _ l.0 l.2)
+
+pub overflow_cast-excites : goal.overflow_cast-excites
+overflow_cast-excites c = omega (arith, excited-most _ _ _ _ _ _ _ _ c.requires.by_index c.loop-band.invariant.2 c.low_leaks-leaks.ensures)
+
+pub bounds-excites-band : goal.bounds-excites-band
+bounds-excites-band c = omega (arith, c.loop-band.invariant.2.long)
+
+pub loop-band-preserved : goal.loop-band-preserved
+loop-band-preserved c = (omega arith, omega arith, excited-more _ _ _ _ _ _ _ _ c.requires.powers_len.1 (omega arith) c.loop-band.invariant.2 c.low_leaks-leaks.ensures)
+
+pub shape_of-excites : goal.shape_of-excites
+shape_of-excites c = omega (arith, c.loop-band.invariant.2.long, c.requires.powers_len.1)
+
+pub returns : goal.returns
+returns c =
+    let x = c.loop-band.invariant.2 in
+    let e : c.loop-band.band ≡ 22 = omega arith in
+    record {
+      value = rw e at x.leaks-are;
+      excites_after = rw e at x.filled;
+    }

@@ -1,0 +1,17 @@
+-- The bands before the present one have their psds.
+use Prim.Native.Nat.{◌-◌, ◌≤◌}
+use mathlib.Core.Path.{◌≡◌}
+use native.Mathlib.Omega.{arith}
+use borrow.Author.Rules.{rules}
+use lib.ListN.{length, length-set}
+use Rattle.excitation.specs.BandPsd.{bndpsd}
+use Rattle.excitation.specs.Front.{front}
+use Rattle.excitation.specs.FrontLaws.{front-none, front-more}
+use Rattle.excitation.proofs.Joining.{single}
+use Rattle.excitation.proofs.psd_integration.single_powers.Given as goal
+
+abbrev pub invariant-loop-k : goal.invariant-loop-k
+invariant-loop-k l = (l.k ≤ l.bins) × (l.powers ≡ front (bndpsd l.exp 0 l.end) l.k l.initial.powers) × (length l.powers ≡ 51)
+
+abbrev pub decreases-loop-k : goal.decreases-loop-k
+decreases-loop-k l = l.bins - l.k

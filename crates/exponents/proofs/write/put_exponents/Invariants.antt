@@ -1,0 +1,24 @@
+-- After i groups the bits of the absolute value and of i groups are appended.
+use mathlib.Core.Path.{◌≡◌, refl, ◌∙◌}
+use Prim.Native.Nat.{◌+◌, ◌-◌, ◌*◌, ◌≤◌, ◌<◌}
+use lib.ListN.{length, take}
+use Rattle.bits.specs.Parts.{joined}
+use Rattle.bits.specs.Write.{Put, place}
+use Rattle.bits.specs.WriteLaws.{and_then, turn-start, turn-put}
+use Rattle.exponents.specs.Groups.{group_count, group_bits}
+use Rattle.sheet.specs.RangesLaws.{end-bounds}
+use Rattle.exponents.specs.GroupsLaws.{count-inside}
+use Rattle.exponents.proofs.Coding.{set-bits}
+use native.Mathlib.Omega.{arith}
+use borrow.Author.Rules.{rules}
+use Rattle.exponents.proofs.write.put_exponents.Given as goal
+
+abbrev pub invariant-loop-i : goal.invariant-loop-i
+invariant-loop-i l =
+    (l.i ≤ l.groups)
+    × (length l.out ≡ length l.initial.out)
+    × Put l.initial.out l.initial.w (joined l.i (group_bits l.grpsize (take l.end l.exp))) l.out l.w
+    × (place l.w ≡ place l.initial.w + 7 * l.i)
+
+abbrev pub decreases-loop-i : goal.decreases-loop-i
+decreases-loop-i l = l.groups - l.i

@@ -1,0 +1,20 @@
+-- Block by block: the rows that it leaves are copied into its parts of the buffers, and its counts stored.
+use Prim.Native.Nat.{ℕ, ◌+◌, ◌-◌, ◌*◌, ◌≤◌}
+use mathlib.Core.Path.{◌≡◌, refl, sym, ap, ◌∙◌}
+use native.Mathlib.Omega.{arith}
+use borrow.Author.Rules.{rules}
+use lib.ListN.{length, length-replicate}
+use Rattle.bits.specs.Field.{bits_of}
+use Rattle.bits.specs.FieldLaws.{length-bits_of}
+use Rattle.sheet.specs.Settings.{channels}
+use Rattle.frame_rows.specs.RowsLaws.{row_inside, buffer_held, row-long}
+use Rattle.bits.specs.Walks.{turn-length}
+use Rattle.frame_reader.proofs.SixBlocks.{BlocksRead, blocks_start, frame-fault, blocks_more, frame-good}
+use Rattle.frame_reader.proofs.blocks.get_blocks.Given as goal
+
+abbrev pub invariant-loop-b : goal.invariant-loop-b
+invariant-loop-b l =
+    (l.b ≤ 6) × BlocksRead l.settings (bits_of l.input) l.b l.exps l.bap l.codes l.row l.held l.sets l.streams l.at
+
+abbrev pub decreases-loop-b : goal.decreases-loop-b
+decreases-loop-b l = 6 - l.b

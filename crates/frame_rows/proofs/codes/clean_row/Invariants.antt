@@ -1,0 +1,20 @@
+-- The parts before channel c are clean.
+use mathlib.Core.Path.{◌≡◌, refl, ◌∙◌}
+use mathlib.Core.List.{[]}
+use Prim.Native.Nat.{◌*◌, ◌-◌, ◌≤◌}
+use native.Mathlib.Omega.{arith}
+use lib.ListN.{length, take}
+use borrow.Author.Rules.{rules}
+use Rattle.sheet.specs.Settings.{end_at}
+use Rattle.bits.specs.Parts.{joined, piece}
+use Rattle.bits.specs.PartsLaws.{fill_start, fill_end}
+use Rattle.frame.specs.Layout.{clean, clean_row}
+use Rattle.frame_rows.specs.RowsLaws.{row-held}
+use Rattle.bits.specs.Walks.{lent_is, lent-long, turn-length, turn_more}
+use Rattle.frame_rows.proofs.codes.clean_row.Given as goal
+
+abbrev pub invariant-loop-c : goal.invariant-loop-c
+invariant-loop-c l = (l.c ≤ l.n) × (length l.to ≡ length l.initial.to) × (take (256 * l.c) l.to ≡ joined l.c (λ j. clean (end_at l.settings j) (piece 256 j l.codes)))
+
+abbrev pub decreases-loop-c : goal.decreases-loop-c
+decreases-loop-c l = l.n - l.c

@@ -1,0 +1,21 @@
+-- The codes of the blocks before b are in range.
+use mathlib.Core.Path.{◌≡◌, refl, sym, ap₂, ◌∙◌}
+use mathlib.Core.Bool.{Bool, ◌&&◌}
+use Prim.Native.Nat.{◌*◌, ◌-◌, ◌≤◌}
+use native.Mathlib.Numerals.{add-one}
+use native.Mathlib.Omega.{arith}
+use borrow.Author.Rules.{rules}
+use Rattle.mantissas.specs.Stream.{coded}
+use Rattle.sheet.specs.Ranges.{all_below}
+use Rattle.bits.specs.Parts.{piece}
+use Rattle.frame.specs.Layout.{row_of}
+use Rattle.frame_rows.specs.RowsLaws.{row_inside, buffer_held}
+use Rattle.bits.specs.Walks.{lent_is, lent-long}
+use Rattle.frame_rows.specs.Tests.{rows_coded}
+use Rattle.frame_rows.proofs.legal.codes_legal.Given as goal
+
+abbrev pub invariant-loop-b : goal.invariant-loop-b
+invariant-loop-b l = (l.b ≤ 6) × (l.all ≡ all_below l.b (λ j. coded (piece (256 * l.n) j l.bap) (piece (256 * l.n) j l.codes)))
+
+abbrev pub decreases-loop-b : goal.decreases-loop-b
+decreases-loop-b l = 6 - l.b

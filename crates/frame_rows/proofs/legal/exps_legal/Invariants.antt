@@ -1,0 +1,20 @@
+-- The blocks before b are legal; of the block before, what stands below each end decides.
+use mathlib.Core.Path.{◌≡◌, refl, ap₂, ◌∙◌}
+use mathlib.Core.Bool.{Bool, ◌&&◌}
+use Prim.Native.Nat.{◌-◌, ◌≤◌, ◌<◌}
+use native.Mathlib.Numerals.{add-one}
+use native.Mathlib.Omega.{arith}
+use borrow.Author.Rules.{rules}
+use Rattle.sheet.specs.Ranges.{all_below}
+use Rattle.frame.specs.Layout.{row_of}
+use Rattle.frame.specs.Legal.{row_legal, exps_legal}
+use Rattle.frame.specs.Reader.{earlier}
+use Rattle.frame_rows.specs.RowsLaws.{row-long, row-lent, row_inside}
+use Rattle.frame_rows.specs.TestsLaws.{row-after}
+use Rattle.frame_rows.proofs.legal.exps_legal.Given as goal
+
+abbrev pub invariant-loop-b : goal.invariant-loop-b
+invariant-loop-b l = (l.b ≤ 6) × (l.all ≡ all_below l.b (λ j. row_legal l.settings j (earlier l.settings l.exps j) (row_of l.settings j l.exps)))
+
+abbrev pub decreases-loop-b : goal.decreases-loop-b
+decreases-loop-b l = 6 - l.b

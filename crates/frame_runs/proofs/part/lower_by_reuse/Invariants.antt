@@ -1,0 +1,19 @@
+-- The blocks that are left decide what the run becomes.
+use Prim.Native.Nat.{ℕ, ◌+◌, ◌-◌, ◌≤◌}
+use mathlib.Core.List.{List}
+use mathlib.Core.Path.{◌≡◌, refl, sym, ap, ◌∙◌}
+use native.Mathlib.Omega.{arith}
+use lib.Ieee.{Float}
+use lib.ListN.{length}
+use borrow.Author.Rules.{rules}
+use Rattle.frame.specs.Under.{held-set}
+use Rattle.frame_runs.specs.FiniteLaws.{finite-below}
+use Rattle.frame_runs.specs.Runs.{least_of, exponents_of, least_from}
+use Rattle.frame_runs.specs.RunsLaws.{below-fits, below-lent, whole_below, run_on, run-stops, run_ends}
+use Rattle.frame_runs.proofs.part.lower_by_reuse.Given as goal
+
+abbrev pub invariant-loop-b : goal.invariant-loop-b
+invariant-loop-b l = (l.b ≤ 6) × (length l.part ≡ length l.initial.part) × (least_from l.settings l.coeffs l.c (6 - l.b) l.b l.part ≡ least_from l.settings l.coeffs l.c (6 - l.first) l.first l.initial.part)
+
+abbrev pub decreases-loop-b : goal.decreases-loop-b
+decreases-loop-b l = 6 - l.b

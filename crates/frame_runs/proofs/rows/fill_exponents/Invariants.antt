@@ -1,0 +1,23 @@
+-- The rows before block b are stored, and `row` holds the last of them.
+use Prim.Native.Nat.{◌+◌, ◌-◌, ◌*◌, ◌≤◌}
+use mathlib.Core.List.{◌++◌}
+use mathlib.Core.Path.{◌≡◌, refl, sym, ap, ◌∙◌}
+use native.Mathlib.Omega.{arith}
+use lib.ListN.{length, take, drop, length-take, length-append, length-drop}
+use lib.Seq.{take_at}
+use borrow.Author.Rules.{rules}
+use Rattle.bits.specs.Parts.{joined}
+use Rattle.bits.specs.PartsLaws.{within, part-long, fill_start, fill_more, fill-length, fill_end, front-taken}
+use Rattle.sheet.specs.Sizes.{most_row}
+use Rattle.frame_rows.specs.RowsLaws.{length-no_row, buffer_held}
+use Rattle.frame_runs.specs.Carried.{row_at, row_before}
+use Rattle.frame_runs.specs.CarriedLaws.{carried_first, carried_on}
+use Rattle.frame.specs.Layout.{framed}
+use Rattle.frame_runs.specs.Runs.{exps_of}
+use Rattle.frame_runs.proofs.rows.fill_exponents.Given as goal
+
+abbrev pub invariant-loop-b : goal.invariant-loop-b
+invariant-loop-b l = (l.b ≤ 6) × (length l.exps ≡ length l.initial.exps) × (length l.row ≡ most_row) × (take (256 * l.n) l.row ≡ row_before l.settings l.coeffs l.b) × (take (256 * l.n * l.b) l.exps ≡ joined l.b (row_at l.settings l.coeffs))
+
+abbrev pub decreases-loop-b : goal.decreases-loop-b
+decreases-loop-b l = 6 - l.b

@@ -1,0 +1,29 @@
+use mathlib.Core.Path.{◌≡◌, refl}
+use Prim.Native.Nat.{◌-◌, ◌≤◌}
+use native.Mathlib.Omega.{arith}
+use lib.ListN.{length, take, replicate, length-set}
+use Rattle.bits.specs.Parts.{tab}
+use Rattle.bits.specs.PartsLaws.{tab-start, tab-more, tab-end}
+use Rattle.mantissas.specs.Blocks.{block_baps}
+use Rattle.mantissas.specs.Stream.{bit_count}
+use Rattle.mantissas.proofs.Joining.{below-joined}
+use borrow.Author.Rules.{rules}
+use Rattle.mantissas.proofs.blocks.count_blocks.Goals as goal
+
+pub loop-block-init : goal.loop-block-init
+loop-block-init c = (tab-start _ (replicate 6 0), omega arith, refl)
+
+pub count_block-requires : goal.count_block-requires
+count_block-requires c = record {
+  legal_settings = c.requires.legal_settings;
+  block_bound = (omega arith, c.requires.bap_len);
+  below = below-joined _ _ _ c.requires.below (omega arith);
+}
+
+pub loop-block-preserved : goal.loop-block-preserved
+loop-block-preserved c =
+    let l = c.loop-block in
+    (tab-more _ _ _ _ (omega arith) l.invariant.0 c.count_block.ensures, omega arith, simp length-set l.invariant.2)
+
+pub returns : goal.returns
+returns c = let l = c.loop-block in tab-end _ _ l.block 6 (omega arith) l.invariant.2 l.invariant.0

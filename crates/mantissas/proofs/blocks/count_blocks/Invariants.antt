@@ -1,0 +1,19 @@
+-- After some blocks: their counts are in.
+use mathlib.Core.Path.{◌≡◌, refl}
+use Prim.Native.Nat.{◌-◌, ◌≤◌}
+use native.Mathlib.Omega.{arith}
+use lib.ListN.{length, take, replicate, length-set}
+use Rattle.bits.specs.Parts.{tab}
+use Rattle.bits.specs.PartsLaws.{tab-start, tab-more, tab-end}
+use Rattle.mantissas.specs.Blocks.{block_baps}
+use Rattle.mantissas.specs.Stream.{bit_count}
+use Rattle.mantissas.proofs.Joining.{below-joined}
+use borrow.Author.Rules.{rules}
+use Rattle.mantissas.proofs.blocks.count_blocks.Given as goal
+
+abbrev pub invariant-loop-block : goal.invariant-loop-block
+invariant-loop-block l =
+    (take l.block l.counts ≡ tab l.block (λ b. bit_count (block_baps l.settings l.bap b))) × (l.block ≤ 6) × (length l.counts ≡ 6)
+
+abbrev pub decreases-loop-block : goal.decreases-loop-block
+decreases-loop-block l = 6 - l.block

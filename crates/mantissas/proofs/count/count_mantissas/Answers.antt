@@ -1,0 +1,17 @@
+-- The tally of the whole list, read.
+use native.Mathlib.Omega.{arith}
+use borrow.Author.Rules.{rules}
+use Rattle.mantissas.proofs.Weighing.{weighed-bits}
+use Rattle.mantissas.proofs.count.count_mantissas.Goals as goal
+
+pub weigh-requires : goal.weigh-requires
+weigh-requires c = record {
+  below = search rules;
+  bap_bound = omega arith;
+}
+
+pub returns : goal.returns
+returns c =
+    let p = c.requires in
+    let all = weighed-bits _ _ p.below p.bap_len_bound c.weigh.ensures.value c.bits_of.ensures in
+    record { value = all.0; upper_bound = all.1 }

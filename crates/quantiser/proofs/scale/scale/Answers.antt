@@ -1,0 +1,8 @@
+-- The callees' contracts, one in the other.
+use borrow.Author.Rules.{rules}
+use Rattle.quantiser.specs.Scale.{scaled}
+use Rattle.quantiser.proofs.scale.scale.Goals as goal
+
+pub returns : goal.returns
+unfolding scaled
+returns c = cc

@@ -1,0 +1,26 @@
+use mathlib.Core.Path.{◌≡◌, refl}
+use Prim.Native.Nat.{◌≤◌}
+use lib.ListN.{length, drop, length-set}
+use Rattle.shaping.specs.Reach.{next, descended}
+use Rattle.shaping.proofs.Descent.{descended_from, descent-start, descent-turn, descent-done}
+use native.Mathlib.Omega.{arith}
+use borrow.Author.Rules.{rules}
+use Rattle.shaping.proofs.d15.descend.Goals as goal
+
+pub loop-i-init : goal.loop-i-init
+loop-i-init c =
+    let s = descent-start c.args.exp.now _ refl in
+    (omega arith, refl, omega arith, s.0, s.1)
+
+pub loop-i-preserved : goal.loop-i-preserved
+loop-i-preserved c =
+    let l = c.loop-i in
+    let t = descent-turn c.args.exp.now l.exp l.v c.smaller-v.result l.i c.smaller.result (omega arith) (omega arith) l.invariant.3 l.invariant.4
+    c.smaller.ensures c.smaller-v.ensures in
+    (omega arith, rw length-set l.invariant.1, omega arith, t.0, t.1)
+
+pub shape_of-exp : goal.shape_of-exp
+shape_of-exp c = c.loop-i.invariant.1
+
+pub returns : goal.returns
+returns c = descent-done _ _ c.loop-i.i (omega arith) c.loop-i.invariant.4

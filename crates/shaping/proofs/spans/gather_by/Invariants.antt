@@ -1,0 +1,17 @@
+-- The values before the present one are the least of the spans before it.
+use mathlib.Core.Path.{◌≡◌}
+use mathlib.Core.List.{◌++◌}
+use Prim.Native.Nat.{◌-◌, ◌≤◌}
+use lib.ListN.{length, take, drop, length-set}
+use Rattle.shaping.specs.Spans.{leasts, span_leasts}
+use Rattle.shaping.proofs.Sharing.{gather-start, gather-turn, gather-done}
+use native.Mathlib.Omega.{arith}
+use borrow.Author.Rules.{rules}
+use Rattle.shaping.proofs.spans.gather_by.Given as goal
+
+abbrev pub invariant-loop-i : goal.invariant-loop-i
+invariant-loop-i l =
+    (l.c ≤ l.i) × (l.c ≤ l.n) × (length l.to ≡ 256) × (take l.c l.to ++ leasts l.h 0 (drop l.i l.exp) ≡ span_leasts l.h l.k l.exp)
+
+abbrev pub decreases-loop-i : goal.decreases-loop-i
+decreases-loop-i l = l.n - l.i

@@ -1,0 +1,39 @@
+use mathlib.Core.Path.{◌≡◌, refl, ◌∙◌}
+use Prim.Native.Nat.{◌-◌, ◌≤◌}
+use lib.ListN.{length, take, length-set}
+use Rattle.bits.specs.Parts.{tab}
+use Rattle.bits.specs.PartsLaws.{tab-start, tab-more, tab-end}
+use Rattle.shaping.proofs.Sharing.{value_at, value_there, spread-is}
+use native.Mathlib.Omega.{arith}
+use borrow.Author.Rules.{rules}
+use Rattle.shaping.proofs.spans.spread_by.Goals as goal
+
+pub loop-i-init : goal.loop-i-init
+loop-i-init c =
+    let a = c.args in
+    (tab-start (value_at a.h a.k a.values.now) a.exp.now, omega arith, refl)
+
+pub bounds-values-i : goal.bounds-values-i
+bounds-values-i c =
+    let a = c.args in
+    let l = c.loop-i in
+    value_there a.h a.k (length a.exp.now) l.i a.values.now (omega arith) (omega arith)
+
+pub loop-i-smaller : goal.loop-i-smaller
+loop-i-smaller c = rw length-set (omega arith)
+
+pub loop-i-preserved : goal.loop-i-preserved
+loop-i-preserved c =
+    let a = c.args in
+    let l = c.loop-i in
+    (tab-more (value_at a.h a.k a.values.now) l.exp l.i _ (omega arith) l.invariant.0 refl, rw length-set (omega arith), rw length-set l.invariant.2)
+
+pub shape_of-exp : goal.shape_of-exp
+shape_of-exp c = c.loop-i.invariant.2
+
+pub returns : goal.returns
+returns c =
+    let a = c.args in
+    let l = c.loop-i in
+    tab-end (value_at a.h a.k a.values.now) l.exp l.i (length a.exp.now) (omega arith) l.invariant.2 l.invariant.0
+    ∙ spread-is a.h a.k (length a.exp.now) a.values.now (omega arith) (omega arith)

@@ -1,0 +1,18 @@
+-- The loop adds what each bin loses.
+use mathlib.Core.Path.{◌≡◌, ◌∙◌}
+use mathlib.Core.Logic.{⊎_elim}
+use Prim.Native.Nat.{◌≤◌, ◌+◌, ◌-◌, ◌*◌}
+use native.Mathlib.Numerals.{add-one}
+use lib.ListN.{drop}
+use Rattle.shaping.specs.Strategies.{cost}
+use Rattle.shaping.proofs.Sweep.{merged-head, merged-same}
+use Rattle.shaping.proofs.Costing.{left, cost-turn, cost-done}
+use native.Mathlib.Omega.{arith}
+use borrow.Author.Rules.{rules}
+use Rattle.shaping.proofs.strategies.cost_of.Given as goal
+
+abbrev pub invariant-loop-i : goal.invariant-loop-i
+invariant-loop-i l = (l.i ≤ 256) × (l.sum + 255 ≤ 255 * l.i) × (l.sum + left l.h l.j l.v (drop l.i l.exp) ≡ cost l.h l.exp)
+
+abbrev pub decreases-loop-i : goal.decreases-loop-i
+decreases-loop-i l = l.n - l.i

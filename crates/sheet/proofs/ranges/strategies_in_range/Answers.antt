@@ -1,0 +1,6 @@
+-- The six strategies, and that block 0 is not reuse.
+use borrow.Author.Rules.{rules}
+use Rattle.sheet.proofs.ranges.strategies_in_range.Goals as goal
+
+pub returns : goal.returns
+returns c = simp (c.strategy_in_range.ensures, c.strategy_in_range-2.ensures, c.strategy_in_range-3.ensures, c.strategy_in_range-4.ensures, c.strategy_in_range-5.ensures, c.strategy_in_range-6.ensures)

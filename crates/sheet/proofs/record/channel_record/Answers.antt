@@ -1,0 +1,6 @@
+-- Each value is the byte at its place.
+use borrow.Author.Rules.{rules}
+use Rattle.sheet.proofs.record.channel_record.Goals as goal
+
+pub returns : goal.returns
+returns c = cc

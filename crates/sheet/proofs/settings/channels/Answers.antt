@@ -1,0 +1,11 @@
+-- Those that have a record.
+use borrow.Author.Rules.{rules}
+use Rattle.sheet.specs.Settings.{channels}
+use Rattle.sheet.specs.SettingsLaws.{channels-bounds}
+use Rattle.sheet.proofs.settings.channels.Goals as goal
+
+pub returns : goal.returns
+unfolding channels
+returns c =
+    let bounds = channels-bounds c.requires in
+    record { is = cc; least = rw c.channels_of.ensures bounds.0; most = rw c.channels_of.ensures bounds.1 }

@@ -1,0 +1,18 @@
+-- No band before the present one holds the bin, so it starts at the bin or before it; behind the last band the bin is 253 or more.
+use mathlib.Core.Path.{◌≡◌, sym}
+use Prim.Native.Nat.{ℕ, ◌+◌, ◌-◌, ◌≤◌, ◌<◌}
+use native.Mathlib.Omega.{arith}
+use borrow.Author.Rules.{rules}
+use Rattle.tables.specs.Entry.{entry}
+use Rattle.tables.specs.Bands.{bndtab, bndsz}
+use Rattle.tables.specs.Rules.{masktab-only, masktab-past, bndtab-first, bndtab-next, bndtab-last}
+use Rattle.tables.proofs.bands.masktab.Given as goal
+
+abbrev pub Reached : ℕ → ℕ → Type 0
+Reached bin band = (band < 50 → entry bndtab band ≤ bin) × (50 ≤ band → 253 ≤ bin)
+
+abbrev pub invariant-loop-band : goal.invariant-loop-band
+invariant-loop-band l = (l.band ≤ 50) × Reached l.bin l.band
+
+abbrev pub decreases-loop-band : goal.decreases-loop-band
+decreases-loop-band l = 50 - l.band
