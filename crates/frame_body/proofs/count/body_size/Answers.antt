@@ -12,10 +12,10 @@ unfolding total
 loop-i-init c = (omega arith, refl)
 
 pub overflow_add-size : goal.overflow_add-size
-overflow_add-size c = omega (arith, total-within c.args.t1 c.loop-i.i _ (omega arith) c.loop-i.invariant.1)
+overflow_add-size c = omega (arith, total-within c.args.counts c.loop-i.i _ (omega arith) c.loop-i.invariant.1)
 
 pub loop-i-preserved : goal.loop-i-preserved
-loop-i-preserved c = (omega arith, total-turn c.args.t1 c.loop-i.i _ (omega arith) c.loop-i.invariant.1)
+loop-i-preserved c = (omega arith, total-turn c.args.counts c.loop-i.i _ (omega arith) c.loop-i.invariant.1)
 
 pub returns : goal.returns
-returns c = total-end c.args.t1 c.loop-i.i _ (omega arith) c.loop-i.invariant.1
+returns c = total-end c.args.counts c.loop-i.i _ (omega arith) c.loop-i.invariant.1

@@ -40,4 +40,5 @@ pub returns : goal.returns
 unfolding below_ends
 returns c =
     let e : c.loop-c.c ≡ channels c.args.settings = omega (arith, c.channels-n.ensures.is) in
-    rw e at c.loop-c.invariant.3
+    let all = rw e at c.loop-c.invariant.3 in
+    record { value = all.0; to_after = all.1 }

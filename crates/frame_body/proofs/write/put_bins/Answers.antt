@@ -32,7 +32,7 @@ pub put_mantissas-requires : goal.put_mantissas-requires
 put_mantissas-requires c =
     let baps = front-is _ c.no_row-low_bap.result c.gather_baps-n.new.to _ c.gather_baps-n.ensures.value c.gather_baps-n.ensures.to_after in
     let codes = front-is _ c.no_row_codes-low_codes.result c.gather_codes-m.new.to _ c.gather_codes-m.ensures.value c.gather_codes-m.ensures.to_after in
-    rw (baps, codes) c.requires.1.1
+    rw (baps, codes) (record { coded = c.requires.coded; ready = c.requires.ready })
 
 pub returns : goal.returns
 returns c =

@@ -19,4 +19,4 @@ six-entries : (l : List ℕ) → length l ≡ 6 → six_of (λ i. get_or l i 0) 
 six-entries l n = six-tab (λ i. get_or l i 0) ∙ tab-list 0 l 6 (omega arith) ∙ take_all 6 l (omega arith)
 
 pub returns : goal.returns
-returns c = ap₂ (λ (x y : List ℕ). x ++ y) (six-entries c.args.t1 (omega arith)) (six-entries c.args.t2 (omega arith))
+returns c = ap₂ (λ (x y : List ℕ). x ++ y) (six-entries c.args.sets (omega arith)) (six-entries c.args.streams (omega arith))

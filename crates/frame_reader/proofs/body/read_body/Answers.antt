@@ -56,5 +56,5 @@ returns c =
     let accepted = sym c.check_sheet-check.ensures ∙ c.if-check-ne-ACCEPTED.false in
     let n = c.buffer_length-n.ensures ∙ held-size c.args.sheet.now c.settings_of-settings.ensures c.channels.ensures in
     let r = rw c.settings_of-settings.ensures at c.read_frame.ensures in
-    let all = all_read c.args.sheet.now (bits_of c.args.input.now) c.args.exps.now c.args.bap.now c.args.codes.now accepted (c.if-exps-n.false ∙ n) (c.if-bap-n.false ∙ n) _ _ _ _ (c.if-codes-n.false ∙ n) r.0 r.1.0 r.1.1.0 r.1.1.1 in
+    let all = all_read c.args.sheet.now (bits_of c.args.input.now) c.args.exps.now c.args.bap.now c.args.codes.now accepted (c.if-exps-n.false ∙ n) (c.if-bap-n.false ∙ n) _ _ _ _ (c.if-codes-n.false ∙ n) r.value r.exps_after r.bap_after r.codes_after in
     record { value = all.0; exps_after = all.1.0; bap_after = all.1.1.0; codes_after = all.1.1.1 }

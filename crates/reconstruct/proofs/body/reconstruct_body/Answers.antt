@@ -8,7 +8,8 @@ use Rattle.reconstruct.proofs.body.reconstruct_body.Goals as goal
 pub returns-then-number-ne-ACCEPTED : goal.returns-then-number-ne-ACCEPTED
 returns-then-number-ne-ACCEPTED c =
     let e = c.check_sheet-number.ensures in
-    rw e (copy-sheet c.args.sheet.now c.args.exps.now c.args.codes.now c.args.has_level.now c.args.levels.now (λ h. c.if-number-ne-ACCEPTED.true (e ∙ h)))
+    let all = copy-sheet c.args.sheet.now c.args.exps.now c.args.codes.now c.args.has_level.now c.args.levels.now (λ h. c.if-number-ne-ACCEPTED.true (e ∙ h)) in
+    rw e (record { value = all.0; has_level_after = all.1.0; levels_after = all.1.1 })
 
 pub settings_of-settings-requires : goal.settings_of-settings-requires
 settings_of-settings-requires c = sym c.check_sheet-number.ensures ∙ c.if-number-ne-ACCEPTED.false
@@ -21,5 +22,8 @@ pub returns : goal.returns
 returns c =
     let done = rw c.settings_of-settings.ensures at c.reconstruct_under.ensures in
     let accepted = sym c.check_sheet-number.ensures ∙ c.if-number-ne-ACCEPTED.false in
-    let all = (done.0 ∙ copy-accepted c.args.sheet.now c.args.exps.now c.args.codes.now c.args.has_level.now c.args.levels.now accepted, done.1) in
-    record { value = all.0; has_level_after = all.1.0; levels_after = all.1.1 }
+    record {
+      value = done.value ∙ copy-accepted c.args.sheet.now c.args.exps.now c.args.codes.now c.args.has_level.now c.args.levels.now accepted;
+      has_level_after = done.has_level_after;
+      levels_after = done.levels_after;
+    }

@@ -1,0 +1,17 @@
+-- The codes so far, then those of the bins that are left.
+use Prim.Native.Nat.{◌-◌, ◌≤◌, ◌<◌}
+use mathlib.Core.List.{◌++◌}
+use mathlib.Core.Path.{◌≡◌, refl}
+use native.Mathlib.Omega.{arith}
+use lib.ListN.{length, take, drop, length-set}
+use borrow.Author.Rules.{rules}
+use Rattle.frame_runs.specs.FiniteLaws.{finite-at}
+use Rattle.frame_encoder.specs.Codes.{codes_for}
+use Rattle.frame_encoder.proofs.Coding.{code-more, code-end}
+use Rattle.frame_encoder.proofs.codes.code_bins.Given as goal
+
+abbrev pub invariant-loop-i : goal.invariant-loop-i
+invariant-loop-i l = (l.i ≤ length l.initial.codes) × (length l.codes ≡ length l.initial.codes) × (take l.i l.codes ++ codes_for (drop l.i l.coeffs) (drop l.i l.exps) (drop l.i l.bap) ≡ codes_for l.coeffs l.exps l.bap)
+
+abbrev pub decreases-loop-i : goal.decreases-loop-i
+decreases-loop-i l = length l.initial.codes - l.i
