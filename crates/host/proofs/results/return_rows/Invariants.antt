@@ -1,0 +1,17 @@
+-- The rows stand one after the other.
+use Prim.Native.Nat.{◌+◌, ◌*◌, ◌≤◌, ◌-◌}
+use mathlib.Core.Path.{◌≡◌, refl, ◌∙◌}
+use mathlib.Core.List.{[]}
+use native.Mathlib.Omega.{arith}
+use lib.ListN.{length, take, get_or}
+use Rattle.bits.specs.Parts.{joined}
+use Rattle.bits.specs.PartsLaws.{part-long, fill_start, fill_more, fill-length, fill_end}
+use Rattle.host.specs.Entries.{rows_of}
+use borrow.Author.Rules.{rules}
+use Rattle.host.proofs.results.return_rows.Given as goal
+
+abbrev pub invariant-loop-c : goal.invariant-loop-c
+invariant-loop-c l = (l.c ≤ l.rows) × (length l.slot ≡ length l.initial.slot) × (take (6 * l.c) l.slot ≡ joined l.c (λ j. get_or l.table j []))
+
+abbrev pub decreases-loop-c : goal.decreases-loop-c
+decreases-loop-c l = l.rows - l.c
