@@ -17,7 +17,7 @@ use Rattle.tables.specs.Computed.{all_below, at-index}
 use Rattle.tables.specs.Entry.{entry, row}
 use Rattle.tables.specs.Masking.{hth}
 use Rattle.tables.specs.Parameters.{floortab}
-use Rattle.tables.specs.Rules.{bndtab-one, dbpbtab-most, hth-least, hth-most, length-hth}
+use Rattle.tables.proofs.Rules.{bndtab-one, dbpbtab-most, hth-least, hth-most, length-hth}
 use Rattle.sheet.specs.Ranges.{lfe_end, full_end, legal_end}
 use Rattle.sheet.specs.declared.common_part.Common.{Common}
 use Rattle.sheet.specs.declared.record.ChannelRecord.{ChannelRecord}

@@ -7,7 +7,7 @@ use native.Mathlib.Omega.{arith}
 use lib.ListN.{length, get_or, replicate, length-replicate, get_or-replicate, get_or-eq_default}
 use Rattle.tables.specs.Bands.{masktab}
 use Rattle.tables.specs.Entry.{entry}
-use Rattle.tables.specs.Rules.{masktab-holds-bin, masktab-most, bndtab-never-falls}
+use Rattle.tables.proofs.Rules.{masktab-holds-bin, masktab-most, bndtab-never-falls}
 use Rattle.excitation.specs.BandOrder.{Bands}
 use Rattle.excitation.specs.Front.{front}
 use Rattle.excitation.specs.FrontLaws.{length_front, get_d_front, get_or-behind}

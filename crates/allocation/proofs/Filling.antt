@@ -14,7 +14,7 @@ use Rattle.tables.specs.Bands.{bndtab, masktab}
 use Rattle.tables.specs.Computed.{all_below, at-index}
 use Rattle.tables.specs.Entry.{entry}
 use Rattle.tables.specs.Quantizer.{baptab}
-use Rattle.tables.specs.Rules.{masktab-only}
+use Rattle.tables.proofs.Rules.{masktab-only}
 use Rattle.excitation.specs.Psd.{psd}
 use Rattle.excitation.specs.BandPsd.{lastbin}
 use Rattle.excitation.specs.BandOrder.{Bands, Starts}

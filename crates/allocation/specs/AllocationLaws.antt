@@ -12,7 +12,7 @@ use Rattle.bits.specs.PartsLaws.{length-tab, get_or-tab, tab-cong}
 use Rattle.tables.specs.Bands.{masktab}
 use Rattle.tables.specs.Entry.{entry}
 use Rattle.tables.specs.Quantizer.{baptab}
-use Rattle.tables.specs.Rules.{baptab-most}
+use Rattle.tables.proofs.Rules.{baptab-most}
 use Rattle.sheet.specs.Legal.{LegalCommon, LegalRecord}
 use Rattle.sheet.specs.Ranges.{lfe_end}
 use Rattle.sheet.specs.declared.common_part.Common.{Common}

@@ -12,7 +12,7 @@ use Rattle.tables.specs.Computed.{all_below, at-index}
 use Rattle.tables.specs.Entry.{entry, row}
 use Rattle.tables.specs.Masking.{hth}
 use Rattle.tables.specs.Parameters.{floortab, signed16}
-use Rattle.tables.specs.Rules.{masktab-most, dbpbtab-most, hth-least}
+use Rattle.tables.proofs.Rules.{masktab-most, dbpbtab-most, hth-least}
 use Rattle.sheet.specs.Ranges.{lfe_end}
 use Rattle.sheet.specs.declared.common_part.Common.{Common}
 use Rattle.sheet.specs.declared.record.ChannelRecord.{ChannelRecord}

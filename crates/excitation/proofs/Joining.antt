@@ -8,7 +8,7 @@ use lib.ListN.{length, take, get_or, set, replicate, length-set}
 use Rattle.bits.specs.Parts.{tab}
 use Rattle.tables.specs.Bands.{bndtab}
 use Rattle.tables.specs.Entry.{entry}
-use Rattle.tables.specs.Rules.{bndtab-one, bndtab-joined}
+use Rattle.tables.proofs.Rules.{bndtab-one, bndtab-joined}
 use Rattle.excitation.specs.Psd.{psd}
 use Rattle.excitation.specs.BandPsd.{lastbin, joined_psd, bndpsd}
 use Rattle.excitation.specs.BandPsdLaws.{bndpsd-one, bndpsd-bins}

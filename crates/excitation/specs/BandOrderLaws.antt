@@ -4,7 +4,7 @@ use Rattle.std.proofs.Common.{sym, ◌∙◌, arith}
 use Rattle.std.proofs.Math.Decide.{dec_lt}
 use Rattle.tables.specs.Bands.{bndtab, bndsz}
 use Rattle.tables.specs.Entry.{entry}
-use Rattle.tables.specs.Rules.{bndtab-next, bndtab-last, bndtab-joined, bndtab-never-falls, bndsz-least, bndtab-one}
+use Rattle.tables.proofs.Rules.{bndtab-next, bndtab-last, bndtab-joined, bndtab-never-falls, bndsz-least, bndtab-one}
 use Rattle.excitation.specs.BandPsd.{lastbin, bndpsd}
 use Rattle.excitation.specs.BandPsdLaws.{bndpsd-none, bndpsd-past}
 use Rattle.excitation.specs.BandOrder.{Bands, Starts, NextBin}

@@ -7,7 +7,7 @@ use Rattle.tables.specs.Computed.{all_below, at-index}
 use Rattle.tables.specs.Entry.{entry}
 use Rattle.tables.specs.EntryLaws.{entry_past}
 use Rattle.tables.specs.Masking.{latab}
-use Rattle.tables.specs.Rules.{latab-most, latab-never-rises, bndtab-one, bndsz-one}
+use Rattle.tables.proofs.Rules.{latab-most, latab-never-rises, bndtab-one, bndsz-one}
 use Rattle.excitation.specs.BandPsd.{logadd, joined_psd, firstbin, lastbin, bndpsd}
 use Rattle.excitation.specs.Psd.{psd}
 

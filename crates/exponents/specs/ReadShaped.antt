@@ -16,7 +16,7 @@ use Rattle.bits.specs.Reading.{ok, read_bits}
 use Rattle.bits.specs.ReadingLaws.{then_ok, steps-keep, bits-read}
 use Rattle.shaping.specs.GroupsLaws.{span-bounds}
 use Rattle.shaping.specs.Greatest.{Shaped}
-use Rattle.shaping.specs.ShapedLaws.{shaped-at-most}
+use Rattle.shaping.proofs.ShapedLaws.{shaped-at-most}
 use Rattle.sheet.specs.Ranges.{legal_end}
 use Rattle.sheet.specs.RangesLaws.{end-bounds}
 use Rattle.shaping.specs.Passes.{is_span}

@@ -5,7 +5,7 @@ use Rattle.bits.specs.Parts.{piece}
 use Rattle.mantissas.specs.Stream.{coded}
 use Rattle.mantissas.specs.Inner.{Coded}
 use Rattle.mantissas.specs.CodedLaws.{coded-true}
-use Rattle.shaping.specs.ShapedLaws.{shaped-yes}
+use Rattle.shaping.proofs.ShapedLaws.{shaped-yes}
 use Rattle.shaping.specs.Greatest.{Shaped}
 use Rattle.sheet.specs.Tests.{all-below}
 use Rattle.sheet.specs.declared.record.ExponentSet.TheVariants.{Reuse, New}

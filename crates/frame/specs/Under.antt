@@ -8,7 +8,7 @@ use Rattle.shaping.specs.Passes.{is_span}
 use Rattle.sheet.specs.LegalSettings.{is_set, LegalSettings}
 use Rattle.sheet.specs.Ranges.{legal_end}
 use Rattle.sheet.specs.Settings.{channels, record_at, end_at, strategies_of, set_in, set_at}
-use Rattle.sheet.specs.SettingsLaws.{record-known, first-known, end-legal}
+use Rattle.sheet.proofs.SettingsLaws.{record-known, first-known, end-legal}
 use Rattle.sheet.specs.declared.record.BlockSet.{BlockSet}
 use Rattle.sheet.specs.declared.record.ExponentSet.{ExponentSet}
 use Rattle.sheet.specs.declared.record.ExponentSet.TheVariants.{Reuse, New}

@@ -5,7 +5,7 @@ use native.Mathlib.Omega.{arith}
 use Rattle.std.proofs.Math.ListN.{length-append}
 use Rattle.bits.specs.Parts.{piece}
 use Rattle.exponents.specs.GroupsLaws.{count-thirds, count-reaches}
-use Rattle.mantissas.specs.BlocksLaws.{joined-most}
+use Rattle.mantissas.proofs.BlocksLaws.{joined-most}
 use Rattle.mantissas.specs.CodedLaws.{coded-baps}
 use Rattle.mantissas.specs.Count.{length-stream, bits_most}
 use Rattle.mantissas.specs.Inner.{Coded}
@@ -14,7 +14,7 @@ use Rattle.sheet.specs.declared.record.ExponentSet.{ExponentSet}
 use Rattle.sheet.specs.declared.record.ExponentSet.TheVariants.{Reuse, New}
 use Rattle.sheet.specs.Settings.{channels, end_at, set_at}
 use Rattle.sheet.specs.LegalSettings.{LegalSettings}
-use Rattle.sheet.specs.SettingsLaws.{channels-bounds}
+use Rattle.sheet.proofs.SettingsLaws.{channels-bounds}
 use Rattle.sheet.specs.declared.settings.Settings.{Settings}
 use Rattle.frame.specs.Layout.{row_of, clean_row}
 use Rattle.frame.specs.LayoutLaws.{length-bap_row, length-row, end-inside}

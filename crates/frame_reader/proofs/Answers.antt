@@ -10,7 +10,7 @@ use Rattle.bits.specs.Refusal as refusal
 use Rattle.sheet.specs.Layout.{buffer_length}
 use Rattle.sheet.specs.LegalSettings.{ChannelCount, LegalSettings}
 use Rattle.sheet.specs.Settings.{settings_of, channels}
-use Rattle.sheet.specs.SettingsLaws.{settings-legal}
+use Rattle.sheet.proofs.SettingsLaws.{settings-legal}
 use Rattle.sheet.specs.Sheet.{check_of}
 use Rattle.sheet.specs.declared.settings.Settings.{Settings}
 use Rattle.frame.specs.Answers.{refused, reading_of, read_into, read_under, read_answer, read_left, reached, exps_read, bap_read, codes_read}

@@ -9,8 +9,8 @@ use Rattle.bits.specs.ReadingLaws.{then_ok, gather-parts}
 use Rattle.exponents.specs.ReadShaped.{exponents-read}
 use Rattle.exponents.specs.Reading.{read_exponents}
 use Rattle.shaping.specs.Passes.{is_span}
-use Rattle.shaping.specs.ShapedLaws.{shaped-at-most}
-use Rattle.sheet.specs.Laws.{reuse-not-new}
+use Rattle.shaping.proofs.ShapedLaws.{shaped-at-most}
+use Rattle.sheet.proofs.Laws.{reuse-not-new}
 use Rattle.sheet.specs.Ranges.{legal_end}
 use Rattle.sheet.specs.declared.record.ExponentSet.{ExponentSet}
 use Rattle.sheet.specs.declared.record.ExponentSet.TheVariants.{Reuse, New}

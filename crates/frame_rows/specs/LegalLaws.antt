@@ -3,7 +3,7 @@ use Rattle.std.specs.Prelude.{ℕ, zero, suc, ◌-◌, ◌*◌, ◌≤◌, ◌<�
 use Rattle.std.proofs.Common.{sym, ap, ◌∙◌, arith, get_or-take}
 use Rattle.bits.specs.Parts.{piece}
 use Rattle.shaping.specs.Greatest.{Shaped}
-use Rattle.shaping.specs.ShapedLaws.{shaped-at-most}
+use Rattle.shaping.proofs.ShapedLaws.{shaped-at-most}
 use Rattle.sheet.specs.declared.record.ExponentSet.TheVariants.{Reuse, New}
 use Rattle.sheet.specs.Settings.{channels, end_at, set_at}
 use Rattle.sheet.specs.LegalSettings.{LegalSettings}

@@ -6,7 +6,7 @@ use Rattle.std.proofs.Common.{ap, ◌∙◌, arith, length-append}
 use Rattle.std.proofs.Math.ListN.{length-replicate}
 use Rattle.frame.specs.Layout.{by_set, below_end}
 use Rattle.frame.specs.Under.{channel-known}
-use Rattle.shaping.specs.ShapedLaws.{length-preprocessed, length-quantised}
+use Rattle.shaping.proofs.ShapedLaws.{length-preprocessed, length-quantised}
 use Rattle.sheet.specs.declared.record.ExponentSet.{ExponentSet}
 use Rattle.sheet.specs.declared.record.ExponentSet.TheVariants.{Reuse, New}
 use Rattle.sheet.specs.Settings.{channels, end_at, set_at}

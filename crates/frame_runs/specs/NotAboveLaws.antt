@@ -9,7 +9,7 @@ use native.Mathlib.Omega.{arith}
 use Rattle.frame.specs.Under.{channel-known, one_of_two, by-reuse, by-new}
 use Rattle.shaping.specs.Extract.{exponent_of}
 use Rattle.shaping.specs.Passes.{preprocessed}
-use Rattle.shaping.specs.ShapedLaws.{preprocessed-not-above, quantised-not-above}
+use Rattle.shaping.proofs.ShapedLaws.{preprocessed-not-above, quantised-not-above}
 use Rattle.sheet.specs.declared.record.ExponentSet.TheVariants.{Reuse, New}
 use Rattle.sheet.specs.Settings.{channels, end_at, set_at}
 use Rattle.sheet.specs.LegalSettings.{LegalSettings}

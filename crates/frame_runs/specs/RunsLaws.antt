@@ -5,7 +5,7 @@ use Rattle.std.proofs.Math.Path.{ap}
 use Rattle.std.proofs.Common.{◌∙◌, add-one, length-take, length-drop, get_or-take, get_or-drop}
 use native.Mathlib.Omega.{arith}
 use Rattle.frame.specs.Under.{channel-known, by-reuse, by-new}
-use Rattle.sheet.specs.Laws.{part-within}
+use Rattle.sheet.proofs.Laws.{part-within}
 use Rattle.sheet.specs.Layout.{part_start}
 use Rattle.sheet.specs.Inner.{PartStart}
 use Rattle.sheet.specs.declared.record.ExponentSet.TheVariants.{Reuse, New}

@@ -15,7 +15,7 @@ use Rattle.frame.specs.Reader.{earlier}
 use Rattle.frame.specs.Under.{channel-known, known-set, one_of_two, by-reuse, by-new}
 use Rattle.frame_rows.specs.LegalLaws.{earlier-taken}
 use Rattle.shaping.specs.Shaped.{shaped_for}
-use Rattle.shaping.specs.ShapedLaws.{run-shaped, shaped_of}
+use Rattle.shaping.proofs.ShapedLaws.{run-shaped, shaped_of}
 use Rattle.sheet.specs.Tests.{all_hold}
 use Rattle.sheet.specs.declared.record.ExponentSet.TheVariants.{Reuse, New}
 use Rattle.sheet.specs.Settings.{channels, end_at, set_at}

@@ -13,12 +13,12 @@ use Rattle.frame.specs.Answers.{body_left}
 use Rattle.frame.specs.declared.answer.FrameAnswer.{FrameAnswer}
 use Rattle.frame_encoder.specs.Encode.{left}
 use Rattle.shaping.specs.Strategies.{select_refusal, selected}
-use Rattle.sheet.specs.CauseLaws.{beside-accepted}
+use Rattle.sheet.proofs.CauseLaws.{beside-accepted}
 use Rattle.sheet.specs.Common.{common_of, channels_of}
-use Rattle.sheet.specs.Laws.{legal-sheet}
+use Rattle.sheet.proofs.Laws.{legal-sheet}
 use Rattle.sheet.specs.Record.{record_of}
 use Rattle.sheet.specs.Settings.{settings_of, record_at, end_at}
-use Rattle.sheet.specs.SettingsLaws.{settings-common, settings-record}
+use Rattle.sheet.proofs.SettingsLaws.{settings-common, settings-record}
 use Rattle.sheet.specs.Sheet.{check_of}
 use Rattle.sheet.specs.declared.common_part.Common.{Common}
 use Rattle.sheet.specs.declared.record.ChannelRecord.{ChannelRecord}

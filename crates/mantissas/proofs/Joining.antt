@@ -11,7 +11,7 @@ use Rattle.bits.specs.Parts.{joined}
 use Rattle.bits.specs.PartsLaws.{joined-more}
 use Rattle.bits.specs.Tests.{by_bool}
 use Rattle.mantissas.specs.Blocks.{part_baps, block_baps}
-use Rattle.mantissas.specs.BlocksLaws.{block-most}
+use Rattle.mantissas.proofs.BlocksLaws.{block-most}
 use Rattle.mantissas.specs.Formula.{count, alone}
 use Rattle.mantissas.specs.Inner.{Below, nil, cons}
 use Rattle.mantissas.specs.Stream.{baps_fit, bit_count}
@@ -21,7 +21,7 @@ use Rattle.sheet.specs.Layout.{buffer_length}
 use Rattle.sheet.specs.Inner.{PartStart}
 use Rattle.sheet.specs.LegalSettings.{LegalSettings}
 use Rattle.sheet.specs.Settings.{channels, end_at}
-use Rattle.sheet.specs.SettingsLaws.{channels-bounds, end-bounds}
+use Rattle.sheet.proofs.SettingsLaws.{channels-bounds, end-bounds}
 use Rattle.sheet.specs.declared.settings.Settings.{Settings}
 
 -- ---- the baps of a part are among those of the whole

@@ -8,3 +8,5 @@ pub mod Reading
 pub mod Values
 pub mod Weighing
 pub mod Writing
+-- Theorems on definitions of specs/.
+pub mod BlocksLaws

@@ -18,6 +18,5 @@ pub mod ReadBack
 pub mod InRange
 pub mod Count
 pub mod TallyLaws
-pub mod BlocksLaws
 pub mod BapZero
 pub mod Cases

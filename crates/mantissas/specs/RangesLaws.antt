@@ -4,7 +4,7 @@ use Rattle.std.proofs.Common.{arith, leb→le, eqb→eq, pow_pos}
 use Rattle.tables.specs.Computed.{at-index}
 use Rattle.tables.specs.Entry.{entry}
 use Rattle.tables.specs.Quantizer.{quantization_bits, level_count}
-use Rattle.tables.specs.Rules.{level_count-power}
+use Rattle.tables.proofs.Rules.{level_count-power}
 use Rattle.mantissas.specs.Ranges.{levels, group_sizes, size, width}
 
 pub record Row (b : ℕ) : Type 0 where

@@ -13,7 +13,7 @@ use Rattle.std.proofs.Math.ListN.{get_or}
 use borrow.Author.Tests.{ltb-true, ltb-false, lt-ltb, le-ltb, lt-leb, le-leb}
 use Rattle.tables.specs.Entry.{entry, row}
 use Rattle.tables.specs.Masking.{hth}
-use Rattle.tables.specs.Rules.{hth-least}
+use Rattle.tables.proofs.Rules.{hth-least}
 use Rattle.excitation.specs.Signed.{int_max, hold}
 use Rattle.excitation.specs.SignedLaws.{max-lift, pos-sub}
 use Rattle.masking.specs.Threshold.{raised, masking_curve}

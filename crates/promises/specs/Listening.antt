@@ -6,7 +6,7 @@ use borrow.Author.Tests.{eqb-true, eqb-false, eq-eqb}
 use Rattle.bits.specs.Refusal as refusal
 use Rattle.bits.specs.Tests.{by_bool, both}
 use Rattle.sheet.specs.Cause.{Cause}
-use Rattle.sheet.specs.CauseLaws.{check-cause}
+use Rattle.sheet.proofs.CauseLaws.{check-cause}
 use Rattle.sheet.specs.Layout.{buffer_length}
 use Rattle.sheet.specs.Settings.{settings_of, channels}
 use Rattle.sheet.specs.Sheet.{check_of}
@@ -16,7 +16,6 @@ use Rattle.frame.specs.Layout.{cleaned}
 use Rattle.reconstruct.specs.Copy.{copy_of, all_fit, copy_under, copy_number}
 use Rattle.reconstruct.specs.CopyLaws.{copy-same}
 use Rattle.promises.specs.Calls.{FrameUnder}
-use Rattle.promises.specs.Demand2.{read-back-is-the-same}
 
 -- a frame under a sheet, and two outputs of the sheet's length; `flags` and `levels` are their lengths
 pub record CopyUnder (sheet exps codes : List ℕ) (flags levels : ℕ) : Type 0 where
@@ -91,11 +90,3 @@ module _ (sheet exps codes : List ℕ) (flags levels : ℕ) where
       of-cause (exponents s l t) z = absurd (omega arith)
       of-cause (code s l x t) z = absurd (omega arith)
       of-cause (none u) z = u
-
--- A FRAME THAT IS WRITTEN AND READ BACK SOUNDS THE SAME: what `read_body` leaves of what `write_body` wrote (Demand2.antt, `written-reads-back`)
--- has the copy of what was written
-pub read-back-heard : (sheet exps codes : List ℕ) (size : ℕ) → (write_answer sheet exps codes size).refusal ≡ refusal.accepted
-    → copy_of (settings_of sheet) (cleaned (settings_of sheet) exps) (cleaned (settings_of sheet) codes) ≡ copy_of (settings_of sheet) exps codes
-read-back-heard sheet exps codes size accepted =
-    let same = read-back-is-the-same sheet exps codes size accepted in
-    copy-same (settings_of sheet) (cleaned (settings_of sheet) exps) exps (cleaned (settings_of sheet) codes) codes same.0 same.1

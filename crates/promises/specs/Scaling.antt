@@ -8,7 +8,7 @@ use Rattle.std.specs.Float.Ieee.Positive.{num, den}
 use Rattle.std.specs.Float.Ieee.Scale.{finite}
 use Rattle.bits.specs.Refusal as refusal
 use Rattle.sheet.specs.Settings.{settings_of, channels, end_at}
-use Rattle.sheet.specs.SettingsLaws.{settings-legal}
+use Rattle.sheet.proofs.SettingsLaws.{settings-legal}
 use Rattle.sheet.specs.declared.settings.Settings.{Settings}
 use Rattle.frame_encoder.specs.Codes.{codes_of}
 use Rattle.frame_encoder.specs.CodesLegal.{codes_of-at}

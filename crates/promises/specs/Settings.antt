@@ -4,7 +4,7 @@ use Rattle.std.specs.Prelude.{ℕ, ◌≡◌, List}
 use Rattle.bits.specs.Bytes.{Bytes}
 use Rattle.bits.specs.Refusal as refusal
 use Rattle.sheet.specs.Settings.{settings_of}
-use Rattle.sheet.specs.SettingsLaws.{settings-fix-bytes}
+use Rattle.sheet.proofs.SettingsLaws.{settings-fix-bytes}
 use Rattle.sheet.specs.Sheet.{check_of}
 
 -- EQUAL SETTINGS, EQUAL BYTES: of any two accepted sheets

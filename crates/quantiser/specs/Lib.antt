@@ -6,8 +6,6 @@ pub mod Code
 -- Then what follows from it: what the inner functions ask, the laws, and the cases.
 pub mod Inner
 pub mod ScaleLaws
-pub mod AsymmetricLaws
-pub mod PatternLaws
 pub mod SymmetricLaws
 pub mod CodeLaws
 pub mod FloatLaws

@@ -8,6 +8,5 @@ pub mod QuotientLaws
 pub mod ValueLaws
 pub mod BinLaws
 pub mod CopyLaws
-pub mod AnswersLaws
 pub mod Theorems
 pub mod Cases

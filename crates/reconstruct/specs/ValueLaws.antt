@@ -13,7 +13,7 @@ use Rattle.tables.specs.Computed.{all_below, at-index}
 use Rattle.tables.specs.Entry.{entry}
 use Rattle.tables.specs.Quantizer.{level, levels, level_count, level_counts}
 use Rattle.quantiser.specs.Asymmetric.{half_away, signed_code}
-use Rattle.quantiser.specs.AsymmetricLaws.{away-is}
+use Rattle.quantiser.proofs.AsymmetricLaws.{away-is}
 use Rattle.quantiser.specs.Scale.{zero32}
 use Rattle.quantiser.specs.Symmetric.{nearest_of}
 use Rattle.reconstruct.specs.QuotientLaws.{Held, held-quotient}

@@ -12,7 +12,7 @@ use Rattle.shaping.specs.Greatest.{Below, Greatest, Follows, ShapedFrom}
 use Rattle.shaping.specs.GreatestLaws.{below_at, at-below, below_both}
 use Rattle.shaping.specs.D15.{limited}
 use Rattle.shaping.specs.PassLaws.{limited-greatest}
-use Rattle.shaping.specs.ShapedLaws.{from-at-most}
+use Rattle.shaping.proofs.ShapedLaws.{from-at-most}
 use Rattle.shaping.proofs.Padded.{padded-inside, padded-before, padded-behind, length-padded, padded-most}
 use Rattle.shaping.specs.Reach.{topped_at, topped, padded, near_least, far_least, nearest, farthest}
 

@@ -18,8 +18,6 @@ pub mod ExtractLaws
 pub mod GreatestLaws
 pub mod PassLaws
 pub mod SpanLaws
-pub mod ShapedLaws
 pub mod GroupsLaws
-pub mod RustLaws
 pub mod StrategyLaws
 pub mod Cases

@@ -7,5 +7,4 @@ pub mod Quantizer
 -- Then what follows from it: rules that are computed over whole tables, and the laws of entries and levels.
 pub mod EntryLaws
 pub mod Computed
-pub mod Rules
 pub mod Levels

@@ -5,7 +5,7 @@ use native.Mathlib.Omega.{arith}
 use lib.ListN.{length, take, length-set}
 use Rattle.bits.specs.Parts.{tab}
 use Rattle.bits.specs.PartsLaws.{tab-start, tab-more}
-use Rattle.tables.specs.Rules.{masktab-one}
+use Rattle.tables.proofs.Rules.{masktab-one}
 use Rattle.allocation.specs.Held.{bap_from}
 use Rattle.allocation.proofs.Filling.{length-baptab, held-read, from-base}
 use Rattle.allocation.proofs.bap.fill_few.Given as goal

@@ -4,7 +4,7 @@ use native.Mathlib.Omega.{arith}
 use lib.Ieee.{binary32, to_bits}
 use lib.Ieee.Bits.{to_bits-lt}
 use Rattle.tables.specs.Quantizer.{level_count}
-use Rattle.tables.specs.Rules.{level_count-most}
+use Rattle.tables.proofs.Rules.{level_count-most}
 use Rattle.tables.specs.Levels.{level-fits, level-not-nan}
 use Rattle.edges.proofs.Within.{level-there}
 use Rattle.edges.proofs.tables_printed.level_bits.Statement.{statement}

@@ -1,7 +1,7 @@
 -- The larger and the entry of latab that lies at half the distance.
 use native.Mathlib.Omega.{arith}
 use Rattle.tables.specs.Masking.{latab}
-use Rattle.tables.specs.Rules.{latab-most}
+use Rattle.tables.proofs.Rules.{latab-most}
 use Rattle.excitation.specs.BandPsd.{logadd}
 use Rattle.tables.specs.EntryLaws.{entry-lent}
 use borrow.Author.Rules.{rules}

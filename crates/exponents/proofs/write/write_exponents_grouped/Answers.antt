@@ -5,7 +5,7 @@ use native.Mathlib.Nat.{sub-zero}
 use lib.ListN.{length}
 use Rattle.bits.specs.Tests.{held_false, held_true, passed, failed}
 use Rattle.bits.specs.WriteLaws.{step-stored, output-stored, output-left}
-use Rattle.shaping.specs.ShapedLaws.{shaped-yes}
+use Rattle.shaping.proofs.ShapedLaws.{shaped-yes}
 use Rattle.shaping.specs.GroupsLaws.{span-bounds}
 use Rattle.sheet.specs.RangesLaws.{end-bounds}
 use Rattle.exponents.proofs.Answers.{range-parts, length-parts, written-range, written-length, written-shape, written-room, written_all}

@@ -4,7 +4,7 @@ use native.Mathlib.Omega.{arith}
 use borrow.Author.Rules.{rules}
 use Rattle.bits.specs.Refusal as refusal
 use Rattle.bits.specs.Tests.{held_false, held_true, passed, failed}
-use Rattle.sheet.specs.SettingsLaws.{settings-legal}
+use Rattle.sheet.proofs.SettingsLaws.{settings-legal}
 use Rattle.frame.specs.Answers.{refused}
 use Rattle.frame.specs.AnswersLaws.{body_refused}
 use Rattle.frame_encoder.specs.EncodeLaws.{left-refused, fit-whole, answer-sheet, answer-length, answer-not-finite, answer-room}

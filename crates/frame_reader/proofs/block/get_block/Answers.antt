@@ -4,7 +4,7 @@ use lib.ListN.{length}
 use native.Mathlib.Omega.{arith}
 use borrow.Author.Rules.{rules}
 use Rattle.bits.specs.FieldLaws.{length-bits_of}
-use Rattle.sheet.specs.SettingsLaws.{channels-bounds}
+use Rattle.sheet.proofs.SettingsLaws.{channels-bounds}
 use Rattle.frame.specs.LayoutLaws.{length-bap_row}
 use Rattle.frame_reader.specs.SetsLaws.{row-long, row_low, row_kept}
 use Rattle.frame_reader.proofs.OneBlock.{baps-below, block-bad-sets, block-bad-codes, block-good}

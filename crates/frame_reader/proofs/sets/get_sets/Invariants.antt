@@ -6,7 +6,7 @@ use borrow.Author.Rules.{rules}
 use Rattle.bits.specs.Field.{bits_of}
 use Rattle.bits.specs.FieldLaws.{length-bits_of}
 use Rattle.sheet.specs.Settings.{channels}
-use Rattle.sheet.specs.SettingsLaws.{end-legal}
+use Rattle.sheet.proofs.SettingsLaws.{end-legal}
 use Rattle.frame.specs.Under.{held-known}
 use Rattle.frame_rows.specs.RowsLaws.{part-inside}
 use Rattle.frame_reader.proofs.SetsTurns.{SetsRead, turn-of, sets-start, part-size, row-size, sets-fault, sets_more, sets_end}

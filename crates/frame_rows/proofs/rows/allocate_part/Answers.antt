@@ -3,7 +3,7 @@ use native.Mathlib.Omega.{arith}
 use borrow.Author.Rules.{rules}
 use Rattle.frame.specs.Body.{bap_part}
 use Rattle.frame.specs.Under.{channel-known}
-use Rattle.sheet.specs.SettingsLaws.{channels-bounds}
+use Rattle.sheet.proofs.SettingsLaws.{channels-bounds}
 use Rattle.frame_rows.proofs.rows.allocate_part.Goals as goal
 
 pub end_at-end-requires : goal.end_at-end-requires

@@ -3,7 +3,7 @@ use mathlib.Core.Path.{sym, ap, ◌∙◌}
 use native.Mathlib.Omega.{arith}
 use borrow.Author.Rules.{rules}
 use Rattle.frame.specs.Under.{held-set}
-use Rattle.sheet.specs.SettingsLaws.{channels-bounds}
+use Rattle.sheet.proofs.SettingsLaws.{channels-bounds}
 use Rattle.frame_runs.specs.CarriedLaws.{part_stays, part-begins}
 use Rattle.sheet.specs.declared.record.ExponentSet.TheVariants.{New}
 use Rattle.frame_runs.proofs.part.next_part.Goals as goal

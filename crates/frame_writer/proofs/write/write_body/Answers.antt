@@ -3,7 +3,7 @@ use mathlib.Core.Path.{sym, ◌∙◌}
 use borrow.Author.Rules.{rules}
 use Rattle.frame.specs.AnswersLaws.{body_refused}
 use Rattle.frame_writer.specs.AnswersLaws.{write-sheet, write-accepted}
-use Rattle.sheet.specs.SettingsLaws.{settings-legal}
+use Rattle.sheet.proofs.SettingsLaws.{settings-legal}
 use Rattle.frame_writer.proofs.write.write_body.Goals as goal
 
 pub returns-then-number-ne-ACCEPTED : goal.returns-then-number-ne-ACCEPTED

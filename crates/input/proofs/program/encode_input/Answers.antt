@@ -5,7 +5,7 @@ use Prim.Native.Nat.{◌-◌}
 use lib.ListN.{length, length-drop}
 use Rattle.input.specs.ProgramLaws.{rest-whole, program-sheet, program-length, program-encoded, whole-buffer, buffer-most}
 use borrow.Author.Rules.{rules}
-use Rattle.sheet.specs.SettingsLaws.{settings-legal}
+use Rattle.sheet.proofs.SettingsLaws.{settings-legal}
 use Rattle.input.proofs.program.encode_input.Goals as goal
 
 pub returns-then-number-ne-ACCEPTED : goal.returns-then-number-ne-ACCEPTED

@@ -8,7 +8,7 @@ use Rattle.mantissas.specs.Blocks.{part_baps}
 use Rattle.mantissas.specs.Stream.{baps_fit}
 use Rattle.mantissas.proofs.Joining.{part-taken, part-fits, fits-start, fits_more, fits-block}
 use Rattle.sheet.specs.Settings.{channels}
-use Rattle.sheet.specs.SettingsLaws.{channels-bounds}
+use Rattle.sheet.proofs.SettingsLaws.{channels-bounds}
 use Rattle.mantissas.proofs.blocks.check_block.Given as goal
 
 abbrev pub invariant-loop-c : goal.invariant-loop-c

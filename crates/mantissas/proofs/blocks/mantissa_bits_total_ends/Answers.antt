@@ -3,7 +3,7 @@ use mathlib.Core.Path.{sym, ap, ◌∙◌}
 use borrow.Author.Rules.{rules}
 use Rattle.mantissas.specs.Blocks.{no_bits, blocks_answer}
 use Rattle.mantissas.proofs.Answers as answers
-use Rattle.sheet.specs.SettingsLaws.{settings-legal}
+use Rattle.sheet.proofs.SettingsLaws.{settings-legal}
 use Rattle.sheet.specs.declared.settings.Settings.{Settings}
 use Rattle.mantissas.proofs.blocks.mantissa_bits_total_ends.Goals as goal
 

@@ -6,8 +6,8 @@ use native.Mathlib.Omega.{arith}
 use lib.Dec.{T}
 use lib.Ieee.{binary32, fits, to_bits}
 use lib.Pow.{shr_le}
-use Rattle.quantiser.specs.AsymmetricLaws.{half_is}
-use Rattle.quantiser.specs.PatternLaws.{within-number, field-most, whole_is}
+use Rattle.quantiser.proofs.AsymmetricLaws.{half_is}
+use Rattle.quantiser.proofs.PatternLaws.{within-number, field-most, whole_is}
 use Rattle.quantiser.proofs.asymmetric.half_away.Goals as goal
 use Rattle.quantiser.proofs.asymmetric.half_away.Goals.{Start}
 

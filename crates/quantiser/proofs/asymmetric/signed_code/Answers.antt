@@ -5,8 +5,8 @@ use native.Mathlib.Nat.{le_trans}
 use lib.Dec.{T}
 use lib.Pow.{pow_mono, pow_pos}
 use lib.Ieee.{binary32, fits}
-use Rattle.quantiser.specs.AsymmetricLaws.{away-le}
-use Rattle.quantiser.specs.PatternLaws.{within-number, code-set, code-clear}
+use Rattle.quantiser.proofs.AsymmetricLaws.{away-le}
+use Rattle.quantiser.proofs.PatternLaws.{within-number, code-set, code-clear}
 use Rattle.quantiser.proofs.asymmetric.signed_code.Goals as goal
 use Rattle.quantiser.proofs.asymmetric.signed_code.Goals.{Start}
 

@@ -1,8 +1,8 @@
 -- The sheet is tested first.
 use mathlib.Core.Path.{sym, ◌∙◌}
 use borrow.Author.Rules.{rules}
-use Rattle.sheet.specs.SettingsLaws.{settings-legal}
-use Rattle.reconstruct.specs.AnswersLaws.{copy-sheet, copy-accepted}
+use Rattle.sheet.proofs.SettingsLaws.{settings-legal}
+use Rattle.reconstruct.proofs.AnswersLaws.{copy-sheet, copy-accepted}
 use Rattle.reconstruct.proofs.body.reconstruct_body.Goals as goal
 
 pub returns-then-number-ne-ACCEPTED : goal.returns-then-number-ne-ACCEPTED

@@ -7,7 +7,7 @@ use Rattle.bits.specs.Tests.{held_false, held_true, passed, failed}
 use Rattle.frame.specs.Legal.{LegalFrame}
 use Rattle.frame_rows.specs.RowsLaws.{length-no_buffer, length-baps, front-lent, front_length, front-room, front-filled}
 use Rattle.frame_rows.specs.TestsLaws.{rows-coded}
-use Rattle.reconstruct.specs.AnswersLaws.{copy-bad-codes, copy_done}
+use Rattle.reconstruct.proofs.AnswersLaws.{copy-bad-codes, copy_done}
 use Rattle.reconstruct.proofs.body.reconstruct_shaped.Goals as goal
 
 pub overflow_mul-n : goal.overflow_mul-n

@@ -5,7 +5,7 @@ use lib.ListN.{length}
 use borrow.Author.Rules.{rules}
 use Rattle.bits.specs.Tests.{held_false, held_true, passed, failed}
 use Rattle.frame_rows.specs.RowsLaws.{length-no_buffer, front-lent, front-room, front-filled}
-use Rattle.reconstruct.specs.AnswersLaws.{copy-bad-exps}
+use Rattle.reconstruct.proofs.AnswersLaws.{copy-bad-exps}
 use Rattle.reconstruct.proofs.body.reconstruct_sized.Goals as goal
 
 pub returns-then-not-exps_legal : goal.returns-then-not-exps_legal

@@ -1,5 +1,5 @@
 -- The start is as defined, and no sum or product overflows, since the part lies within the buffer.
-use Rattle.sheet.specs.Laws.{part-within}
+use Rattle.sheet.proofs.Laws.{part-within}
 use native.Mathlib.Omega.{arith}
 use borrow.Author.Rules.{rules}
 use Rattle.sheet.proofs.layout.part_start.Goals as goal

@@ -1,7 +1,7 @@
 -- Those that have a record.
 use borrow.Author.Rules.{rules}
 use Rattle.sheet.specs.Settings.{channels}
-use Rattle.sheet.specs.SettingsLaws.{channels-bounds}
+use Rattle.sheet.proofs.SettingsLaws.{channels-bounds}
 use Rattle.sheet.proofs.settings.channels.Goals as goal
 
 pub returns : goal.returns

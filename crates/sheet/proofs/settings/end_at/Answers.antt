@@ -1,7 +1,7 @@
 -- The end that the record at the channel's place holds.
 use native.Mathlib.Omega.{arith}
 use borrow.Author.Rules.{rules}
-use Rattle.sheet.specs.SettingsLaws.{channels-bounds, end-held}
+use Rattle.sheet.proofs.SettingsLaws.{channels-bounds, end-held}
 use Rattle.sheet.proofs.settings.end_at.Goals as goal
 
 pub returns-in-0 : goal.returns-in-0

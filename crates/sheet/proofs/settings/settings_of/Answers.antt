@@ -1,6 +1,6 @@
 -- The records as they stand.
 use borrow.Author.Rules.{rules}
-use Rattle.sheet.specs.SettingsLaws.{settings-as-they-stand}
+use Rattle.sheet.proofs.SettingsLaws.{settings-as-they-stand}
 use Rattle.sheet.proofs.settings.settings_of.Goals as goal
 
 pub returns : goal.returns

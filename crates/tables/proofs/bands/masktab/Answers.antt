@@ -4,7 +4,7 @@ use native.Mathlib.Omega.{arith}
 use borrow.Author.Rules.{rules}
 use Rattle.tables.specs.Entry.{entry}
 use Rattle.tables.specs.Bands.{bndtab, bndsz}
-use Rattle.tables.specs.Rules.{masktab-only, masktab-past, bndtab-first, bndtab-next, bndtab-last}
+use Rattle.tables.proofs.Rules.{masktab-only, masktab-past, bndtab-first, bndtab-next, bndtab-last}
 use Rattle.tables.proofs.bands.masktab.Invariants.{Reached}
 use Rattle.tables.proofs.bands.masktab.Goals as goal
 

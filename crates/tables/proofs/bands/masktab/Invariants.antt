@@ -5,7 +5,7 @@ use native.Mathlib.Omega.{arith}
 use borrow.Author.Rules.{rules}
 use Rattle.tables.specs.Entry.{entry}
 use Rattle.tables.specs.Bands.{bndtab, bndsz}
-use Rattle.tables.specs.Rules.{masktab-only, masktab-past, bndtab-first, bndtab-next, bndtab-last}
+use Rattle.tables.proofs.Rules.{masktab-only, masktab-past, bndtab-first, bndtab-next, bndtab-last}
 use Rattle.tables.proofs.bands.masktab.Given as goal
 
 abbrev pub Reached : ℕ → ℕ → Type 0

@@ -5,7 +5,7 @@ use borrow.Author.Rules.{rules}
 use Rattle.tables.specs.Entry.{entry}
 use Rattle.tables.specs.EntryLaws.{entry-take}
 use Rattle.tables.specs.Masking.{latab}
-use Rattle.tables.specs.Rules.{latab-past}
+use Rattle.tables.proofs.Rules.{latab-past}
 use Rattle.tables.proofs.log_addition.latab.Goals as goal
 
 pub returns-then-address-lt210 : goal.returns-then-address-lt210

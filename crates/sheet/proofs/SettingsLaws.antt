@@ -25,7 +25,7 @@ use Rattle.sheet.specs.Sizes.{most_channels}
 use Rattle.sheet.specs.Legal.{EndBounds, LegalEnd, LegalRecord}
 use Rattle.sheet.specs.LegalSettings.{is_set, LegalSettings, ChannelEnd}
 use Rattle.sheet.specs.OrderLaws.{of_number, none-past}
-use Rattle.sheet.specs.Laws.{structure-tests, range-tests, records-numbered, legal-sheet, reuses, every-block, first_block}
+use Rattle.sheet.proofs.Laws.{structure-tests, range-tests, records-numbered, legal-sheet, reuses, every-block, first_block}
 use Rattle.sheet.specs.Written.{sheet_written}
 use Rattle.sheet.specs.WrittenLaws.{written-again}
 

@@ -14,7 +14,7 @@ use Rattle.mantissas.specs.Stream.{baps_fit, stream, bit_count}
 use Rattle.sheet.specs.Layout.{buffer_length}
 use Rattle.sheet.specs.LegalSettings.{LegalSettings}
 use Rattle.sheet.specs.Settings.{settings_of, channels}
-use Rattle.sheet.specs.SettingsLaws.{end-bounds}
+use Rattle.sheet.proofs.SettingsLaws.{end-bounds}
 use Rattle.sheet.specs.Sheet.{check_of}
 use Rattle.sheet.specs.declared.settings.Settings.{Settings}
 

@@ -18,7 +18,7 @@ use Rattle.quantiser.specs.Scale.{zero32}
 use Rattle.quantiser.specs.Inner.{within}
 use Rattle.quantiser.specs.ScaleLaws.{within-finite}
 use Rattle.quantiser.specs.Asymmetric.{half_away, signed_code}
-use Rattle.quantiser.specs.AsymmetricLaws.{at_most_one, code-above, code_below, code-zero}
+use Rattle.quantiser.proofs.AsymmetricLaws.{at_most_one, code-above, code_below, code-zero}
 
 -- ---- a pattern b of the sign s, j steps of the exponent and the digits d
 

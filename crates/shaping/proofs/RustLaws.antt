@@ -8,7 +8,7 @@ use Rattle.shaping.specs.Passes.{is_span, quantised}
 use Rattle.shaping.specs.Strategies.{merged}
 use Rattle.shaping.specs.GroupsLaws.{span-is}
 use Rattle.shaping.specs.SpanLaws.{leasts-skip, length-copies}
-use Rattle.shaping.specs.ShapedLaws.{quantised-is}
+use Rattle.shaping.proofs.ShapedLaws.{quantised-is}
 use Rattle.shaping.specs.RustSpans.{count_down, lacks, lowered, front_lowered, lower_spans, forward_spans, led, rust_spanned}
 
 -- ---- pass 1 and the forward pass are those of the spans' values, for every length

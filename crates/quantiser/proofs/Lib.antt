@@ -1,0 +1,3 @@
+-- Theorems on definitions of specs/.
+pub mod AsymmetricLaws
+pub mod PatternLaws

@@ -1,0 +1,2 @@
+-- Theorems on definitions of specs/.
+pub mod AnswersLaws
