@@ -1,26 +1,23 @@
 -- DEMAND 3, sentence by sentence: unique reading, reading whatever follows, the number of bits read, and the formula. A frame is the exponents
 -- and codes of all six blocks below each end, under a sheet that is not refused (`FrameUnder`, Calls.antt); its bits are `body_bits`, without the
 -- zero bits to the byte.
-use Rattle.std.specs.Prelude.{ℕ, ◌+◌, ◌*◌, ◌≡◌, Bool, List, [], ◌++◌, length}
+use Rattle.std.specs.Prelude.{ℕ, ◌≡◌, Bool, List, [], ◌++◌, length}
 use Rattle.std.proofs.Common.{sym, ap, ◌∙◌, append-nil}
 use Rattle.bits.specs.Field.{bits_of}
 use Rattle.bits.specs.ReadingLaws.{reads_same}
 use Rattle.bits.specs.Refusal as refusal
-use Rattle.mantissas.specs.Formula.{count, alone, sum}
-use Rattle.sheet.specs.Settings.{settings_of, channels, end_at, set_at}
-use Rattle.sheet.specs.declared.settings.Settings.{Settings}
+use Rattle.sheet.specs.Settings.{settings_of}
 use Rattle.frame.specs.Answers.{gives, write_answer, read_answer}
-use Rattle.frame.specs.Body.{bap_row, body_bits, counts_of, total, baps_of}
-use Rattle.frame.specs.Layout.{row_of, SameBelowEnds, cleaned}
+use Rattle.frame.specs.Body.{body_bits, counts_of, total, baps_of}
+use Rattle.frame.specs.Layout.{SameBelowEnds, cleaned}
 use Rattle.frame.specs.Theorems.{body-reads-back, body-same-below-ends, body-count}
 use Rattle.frame.specs.declared.answer.FrameAnswer.{FrameAnswer}
-use Rattle.frame_body.specs.Counts.{third, half, set_count}
 use Rattle.frame_body.specs.Formula.{counts-sum}
 use Rattle.frame_body.specs.Writing.{sets_count}
 use Rattle.promises.specs.Calls.{FrameUnder, Buffers, ReadAs}
 use Rattle.promises.specs.Demand1.{write-accepted}
 use Rattle.promises.proofs.ReadingLaws.{under, exps-rows, codes-rows, frame-read}
-use Rattle.promises.specs.Demand3.{bins, ungrouped, formula_of}
+use Rattle.promises.specs.Demand3.{formula_of}
 
 -- "if the bits of one, closing padding left off, begin the bits of the other, the frames are alike in every exponent and code"; and then
 -- nothing is left of the other's bits

@@ -10,11 +10,9 @@ use Rattle.sheet.proofs.CauseLaws.{check-cause}
 use Rattle.sheet.specs.Layout.{buffer_length}
 use Rattle.sheet.specs.Settings.{settings_of, channels}
 use Rattle.sheet.specs.Sheet.{check_of}
-use Rattle.frame.specs.Answers.{fits, write_answer}
+use Rattle.frame.specs.Answers.{fits}
 use Rattle.frame.specs.Legal.{exps_legal, codes_legal}
-use Rattle.frame.specs.Layout.{cleaned}
-use Rattle.reconstruct.specs.Copy.{copy_of, all_fit, copy_under, copy_number}
-use Rattle.reconstruct.specs.CopyLaws.{copy-same}
+use Rattle.reconstruct.specs.Copy.{all_fit, copy_under, copy_number}
 use Rattle.promises.specs.Calls.{FrameUnder}
 
 -- a frame under a sheet, and two outputs of the sheet's length; `flags` and `levels` are their lengths
