@@ -2,42 +2,49 @@
 use crate::allocate::allocated;
 use crate::channels::{BASE, FSCOD};
 use crate::exponents::{Exponents, FLAT, LOUD, SLOPE, SPREAD, STEP, of_rule};
-use crate::show;
+use std::io;
 
 // The base codes at each rate.
-fn rates(label: &[u8], value: u64, exponents: Exponents, end: usize) {
+fn rates(
+    rt: &impl Print,
+    label: &str,
+    value: u64,
+    exponents: Exponents,
+    end: usize,
+) -> io::Result<()> {
     let mut codes = BASE;
-    show::text(label);
-    show::number(value);
+    print!(rt; "{label} {value}")?;
     codes[FSCOD] = 0;
-    allocated(codes, exponents, end);
+    allocated(rt, codes, exponents, end)?;
     codes[FSCOD] = 1;
-    allocated(codes, exponents, end);
+    allocated(rt, codes, exponents, end)?;
     codes[FSCOD] = 2;
-    allocated(codes, exponents, end);
-    show::end();
+    allocated(rt, codes, exponents, end)?;
+    println!(rt; "")
 }
 
-pub(crate) fn ends() {
-    rates(b"end", 7, of_rule(SPREAD, 0), 7);
+pub(crate) fn ends(rt: &impl Print) -> io::Result<()> {
+    rates(rt, "end", 7, of_rule(SPREAD, 0), 7)?;
     for k in 0..73 {
         let end = 37 + 3 * k;
-        rates(b"end", end as u64, of_rule(SPREAD, 0), end);
+        rates(rt, "end", end as u64, of_rule(SPREAD, 0), end)?;
     }
+    Ok(())
 }
 
 // The values below `count`.
-fn each(label: &[u8], rule: u8, count: u8, end: usize) {
+fn each(rt: &impl Print, label: &str, rule: u8, count: u8, end: usize) -> io::Result<()> {
     for v in 0..count {
-        rates(label, v as u64, of_rule(rule, v), end);
+        rates(rt, label, v as u64, of_rule(rule, v), end)?;
     }
+    Ok(())
 }
 
-pub(crate) fn exponents() {
-    each(b"all bins", FLAT, 25, 253);
-    each(b"loud bin", LOUD, 37, 253);
-    rates(b"loud bin", 100, of_rule(LOUD, 100), 253);
-    rates(b"loud bin", 252, of_rule(LOUD, 252), 253);
-    each(b"LFE step", STEP, 8, 7);
-    each(b"LFE slope", SLOPE, 32, 7);
+pub(crate) fn exponents(rt: &impl Print) -> io::Result<()> {
+    each(rt, "all bins", FLAT, 25, 253)?;
+    each(rt, "loud bin", LOUD, 37, 253)?;
+    rates(rt, "loud bin", 100, of_rule(LOUD, 100), 253)?;
+    rates(rt, "loud bin", 252, of_rule(LOUD, 252), 253)?;
+    each(rt, "LFE step", STEP, 8, 7)?;
+    each(rt, "LFE slope", SLOPE, 32, 7)
 }

@@ -2,37 +2,47 @@
 use crate::allocate::{allocated, segmented};
 use crate::channels::Segments;
 use crate::exponents::{FLAT, SHAPED, SLOPE, SPREAD, of_rule};
-use crate::show;
+use std::io;
 
-fn listed(label: &[u8], codes: [u8; 9], rule: u8, value: u8, end: usize) {
-    show::text(label);
-    allocated(codes, of_rule(rule, value), end);
-    show::end();
+fn listed(
+    rt: &impl Print,
+    label: &str,
+    codes: [u8; 9],
+    rule: u8,
+    value: u8,
+    end: usize,
+) -> io::Result<()> {
+    print!(rt; "{label}")?;
+    allocated(rt, codes, of_rule(rule, value), end)?;
+    println!(rt; "")
 }
 
-pub(crate) fn differences() {
+pub(crate) fn differences(rt: &impl Print) -> io::Result<()> {
     listed(
-        b"44.1 kHz, band 25",
+        rt,
+        "44.1 kHz, band 25",
         [1, 0, 0, 0, 0, 0, 14, 5, 0],
         SHAPED,
         17,
         37,
-    );
+    )?;
     listed(
-        b"44.1 kHz, band 28",
+        rt,
+        "44.1 kHz, band 28",
         [1, 0, 0, 0, 0, 0, 1, 9, 7],
         SHAPED,
         11,
         37,
-    );
+    )?;
     listed(
-        b"44.1 kHz, band 34",
+        rt,
+        "44.1 kHz, band 34",
         [1, 0, 0, 0, 0, 0, 1, 1, 7],
         SHAPED,
         11,
         49,
-    );
-    listed(b"offsets 0", [0, 0, 0, 0, 0, 0, 0, 0, 7], FLAT, 0, 37);
+    )?;
+    listed(rt, "offsets 0", [0, 0, 0, 0, 0, 0, 0, 0, 7], FLAT, 0, 37)
 }
 
 // Codes and segments that a number below 256 stands for.
@@ -59,21 +69,28 @@ fn segments_of(seed: u8) -> Segments {
     }
 }
 
-fn mixture(seed: u8) {
-    show::text(b"mixture");
-    show::number(seed as u64);
+fn mixture(rt: &impl Print, seed: u8) -> io::Result<()> {
+    print!(rt; "mixture {seed}")?;
     segmented(
+        rt,
         codes_of(seed),
         segments_of(seed),
         of_rule(SPREAD, seed),
         253,
-    );
-    segmented(codes_of(seed), segments_of(seed), of_rule(SLOPE, seed), 133);
-    show::end();
+    )?;
+    segmented(
+        rt,
+        codes_of(seed),
+        segments_of(seed),
+        of_rule(SLOPE, seed),
+        133,
+    )?;
+    println!(rt; "")
 }
 
-pub(crate) fn mixtures() {
+pub(crate) fn mixtures(rt: &impl Print) -> io::Result<()> {
     for k in 0..36 {
-        mixture(7 * k);
+        mixture(rt, 7 * k)?;
     }
+    Ok(())
 }

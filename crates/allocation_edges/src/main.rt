@@ -14,18 +14,20 @@ pub mod refusals;
 pub mod segments;
 pub mod show;
 
-fn main() {
-    bins::ends();
-    bins::exponents();
-    codes::all();
-    segments::deltas();
-    segments::last_band();
-    segments::joined();
-    refusals::ends();
-    refusals::lengths();
-    refusals::exponents();
-    refusals::ranges();
-    listed::differences();
-    listed::mixtures();
-    logadd::all();
+use std::io;
+
+fn main(rt: HostRuntime) -> io::Result<()> {
+    bins::ends(&rt)?;
+    bins::exponents(&rt)?;
+    codes::all(&rt)?;
+    segments::deltas(&rt)?;
+    segments::last_band(&rt)?;
+    segments::joined(&rt)?;
+    refusals::ends(&rt)?;
+    refusals::lengths(&rt)?;
+    refusals::exponents(&rt)?;
+    refusals::ranges(&rt)?;
+    listed::differences(&rt)?;
+    listed::mixtures(&rt)?;
+    logadd::all(&rt)
 }

@@ -2,95 +2,119 @@
 use crate::allocate::sized;
 use crate::channels::{BASE, Segments, none};
 use crate::exponents::{FLAT, flat_but, of_rule};
-use crate::show;
+use std::io;
 
 // An end, with slices of so many entries.
-fn slices(label: &[u8], end: usize, m: usize, k: usize) {
-    show::text(label);
-    sized(BASE, none(), of_rule(FLAT, 0), end, m, k);
-    show::end();
+fn slices(rt: &impl Print, label: &str, end: usize, m: usize, k: usize) -> io::Result<()> {
+    print!(rt; "{label}")?;
+    sized(rt, BASE, none(), of_rule(FLAT, 0), end, m, k)?;
+    println!(rt; "")
 }
 
-pub(crate) fn ends() {
-    slices(b"end 0", 0, 40, 40);
-    slices(b"end 6", 6, 40, 40);
-    slices(b"end 8", 8, 40, 40);
-    slices(b"end 34", 34, 40, 40);
-    slices(b"end 36", 36, 40, 40);
-    slices(b"end 38", 38, 40, 40);
-    slices(b"end 254", 254, 256, 256);
-    slices(b"end 256", 256, 256, 256);
-    slices(b"end 2^64 - 1", 18446744073709551615, 256, 256);
+pub(crate) fn ends(rt: &impl Print) -> io::Result<()> {
+    slices(rt, "end 0", 0, 40, 40)?;
+    slices(rt, "end 6", 6, 40, 40)?;
+    slices(rt, "end 8", 8, 40, 40)?;
+    slices(rt, "end 34", 34, 40, 40)?;
+    slices(rt, "end 36", 36, 40, 40)?;
+    slices(rt, "end 38", 38, 40, 40)?;
+    slices(rt, "end 254", 254, 256, 256)?;
+    slices(rt, "end 256", 256, 256, 256)?;
+    slices(rt, "end 2^64 - 1", 18446744073709551615, 256, 256)
 }
 
-pub(crate) fn lengths() {
-    slices(b"end 38, no exponent", 38, 0, 40);
-    slices(b"one exponent too few", 37, 36, 40);
-    slices(b"one bap too few", 37, 37, 36);
-    slices(b"no bap", 37, 37, 0);
-    slices(b"256 exponents and baps", 37, 256, 256);
-    slices(b"257 exponents", 37, 257, 37);
-    slices(b"257 baps", 37, 37, 257);
-    slices(b"from end on 0", 37, 37, 40);
-    slices(b"from end 7 on 0", 7, 7, 40);
+pub(crate) fn lengths(rt: &impl Print) -> io::Result<()> {
+    slices(rt, "end 38, no exponent", 38, 0, 40)?;
+    slices(rt, "one exponent too few", 37, 36, 40)?;
+    slices(rt, "one bap too few", 37, 37, 36)?;
+    slices(rt, "no bap", 37, 37, 0)?;
+    slices(rt, "256 exponents and baps", 37, 256, 256)?;
+    slices(rt, "257 exponents", 37, 257, 37)?;
+    slices(rt, "257 baps", 37, 37, 257)?;
+    slices(rt, "from end on 0", 37, 37, 40)?;
+    slices(rt, "from end 7 on 0", 7, 7, 40)
 }
 
 // One exponent changed.
-fn exponent(label: &[u8], at: usize, other: u8, end: usize, m: usize) {
-    show::text(label);
-    sized(BASE, none(), flat_but(0, at, other), end, m, 40);
-    show::end();
+fn exponent(
+    rt: &impl Print,
+    label: &str,
+    at: usize,
+    other: u8,
+    end: usize,
+    m: usize,
+) -> io::Result<()> {
+    print!(rt; "{label}")?;
+    sized(rt, BASE, none(), flat_but(0, at, other), end, m, 40)?;
+    println!(rt; "")
 }
 
-pub(crate) fn exponents() {
-    exponent(b"first 25", 0, 25, 37, 37);
-    exponent(b"last 25", 36, 25, 37, 37);
-    exponent(b"last 24", 36, 24, 37, 37);
-    exponent(b"end 38, 25", 0, 25, 38, 40);
-    exponent(b"one exponent too few, 25", 0, 25, 37, 36);
-    exponent(b"255 at end", 37, 255, 37, 38);
+pub(crate) fn exponents(rt: &impl Print) -> io::Result<()> {
+    exponent(rt, "first 25", 0, 25, 37, 37)?;
+    exponent(rt, "last 25", 36, 25, 37, 37)?;
+    exponent(rt, "last 24", 36, 24, 37, 37)?;
+    exponent(rt, "end 38, 25", 0, 25, 38, 40)?;
+    exponent(rt, "one exponent too few, 25", 0, 25, 37, 36)?;
+    exponent(rt, "255 at end", 37, 255, 37, 38)
 }
 
 // One value of the segments changed in each; the last is not there.
-fn segments(label: &[u8], nseg: u8, offst: [u8; 8], len: [u8; 8], ba: [u8; 8]) {
-    show::text(label);
+fn segments(
+    rt: &impl Print,
+    label: &str,
+    nseg: u8,
+    offst: [u8; 8],
+    len: [u8; 8],
+    ba: [u8; 8],
+) -> io::Result<()> {
+    print!(rt; "{label}")?;
     let segments = Segments {
         nseg: nseg,
         offst: offst,
         len: len,
         ba: ba,
     };
-    sized(BASE, segments, flat_but(0, 0, 25), 37, 36, 40);
-    sized(BASE, segments, of_rule(FLAT, 0), 37, 37, 37);
-    show::end();
+    sized(rt, BASE, segments, flat_but(0, 0, 25), 37, 36, 40)?;
+    sized(rt, BASE, segments, of_rule(FLAT, 0), 37, 37, 37)?;
+    println!(rt; "")
 }
 
-pub(crate) fn ranges() {
-    segments(b"nseg 9", 9, [0; 8], [1; 8], [7; 8]);
-    segments(b"nseg 255", 255, [0; 8], [1; 8], [7; 8]);
-    segments(b"first offst 32", 1, [32; 8], [1; 8], [7; 8]);
-    segments(b"first len 16", 1, [0; 8], [16; 8], [7; 8]);
-    segments(b"first ba 8", 1, [0; 8], [1; 8], [8; 8]);
+pub(crate) fn ranges(rt: &impl Print) -> io::Result<()> {
+    segments(rt, "nseg 9", 9, [0; 8], [1; 8], [7; 8])?;
+    segments(rt, "nseg 255", 255, [0; 8], [1; 8], [7; 8])?;
+    segments(rt, "first offst 32", 1, [32; 8], [1; 8], [7; 8])?;
+    segments(rt, "first len 16", 1, [0; 8], [16; 8], [7; 8])?;
+    segments(rt, "first ba 8", 1, [0; 8], [1; 8], [8; 8])?;
     segments(
-        b"eighth offst 32",
+        rt,
+        "eighth offst 32",
         8,
         [0, 0, 0, 0, 0, 0, 0, 32],
         [1; 8],
         [7; 8],
-    );
+    )?;
     segments(
-        b"eighth len 16",
+        rt,
+        "eighth len 16",
         8,
         [0; 8],
         [1, 1, 1, 1, 1, 1, 1, 16],
         [7; 8],
-    );
-    segments(b"eighth ba 8", 8, [0; 8], [1; 8], [7, 7, 7, 7, 7, 7, 7, 8]);
+    )?;
     segments(
-        b"eighth ba 8, not there",
+        rt,
+        "eighth ba 8",
+        8,
+        [0; 8],
+        [1; 8],
+        [7, 7, 7, 7, 7, 7, 7, 8],
+    )?;
+    segments(
+        rt,
+        "eighth ba 8, not there",
         7,
         [0; 8],
         [1; 8],
         [7, 7, 7, 7, 7, 7, 7, 8],
-    );
+    )
 }

@@ -1,18 +1,5 @@
-// What a line is made of: a text, numbers behind blanks, a buffer.
-use libc::STDOUT_FILENO;
-
-pub(crate) fn text(label: &[u8]) {
-    io::write_all(STDOUT_FILENO, label);
-}
-
-pub(crate) fn number(n: u64) {
-    text(b" ");
-    io::print_decimal(STDOUT_FILENO, n);
-}
-
-pub(crate) fn end() {
-    text(b"\n");
-}
+// How a buffer is shown.
+use std::io;
 
 // Each entry enters the sum as the next digit, to the base 257, modulo a prime.
 fn next_sum(sum: u64, entry: u8) -> u64 {
@@ -27,22 +14,19 @@ fn sum(entries: &[u8]) -> u64 {
     all
 }
 
-fn entry(e: u8) {
-    number(e as u64);
-}
-
-fn each(entries: &[u8]) {
-    for i in 0..entries.len() {
-        entry(entries[i]);
+fn each(rt: &impl Print, entries: &[u8]) -> io::Result<()> {
+    for entry in entries {
+        print!(rt; " {entry}")?;
     }
+    Ok(())
 }
 
 // The sum of the entries, and the entries themselves where they are at most 40.
-pub(crate) fn buffer(entries: &[u8]) {
-    number(sum(entries));
+pub(crate) fn buffer(rt: &impl Print, entries: &[u8]) -> io::Result<()> {
+    print!(rt; " {}", sum(entries))?;
     if 40 < entries.len() {
-        return;
+        return Ok(());
     }
-    text(b",");
-    each(entries);
+    print!(rt; ",")?;
+    each(rt, entries)
 }

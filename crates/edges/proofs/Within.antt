@@ -1,4 +1,4 @@
--- What an index below the size of HTH's row or of a bap's levels says of the row and the bap.
+-- What an index below the size of a bap's levels says of the bap.
 use mathlib.Core.Bool.{Bool, true, false, cond}
 use Prim.Native.Nat.{ℕ, suc, zero, ◌≤◌, ◌<◌}
 use native.Mathlib.Omega.{arith}
@@ -9,9 +9,6 @@ use Rattle.tables.specs.Quantizer.{level_count}
 held : (test : Bool) (n i : ℕ) → i < cond test n 0 → T test × (i < n)
 held true n i h = (tt, h)
 held false n i h = absurd (omega arith)
-
-pub row-there : (fscod i : ℕ) → i < cond (ltb fscod 3) 50 0 → (fscod < 3) × (i < 50)
-row-there fscod i h = let t = held (ltb fscod 3) 50 i h in (ltb→lt fscod 3 t.0, t.1)
 
 pub level-there : (bap i : ℕ) → i < cond (ltb bap 6) (level_count bap) 0 → (1 ≤ bap) × (bap ≤ 5) × (i < level_count bap)
 unfolding level_count

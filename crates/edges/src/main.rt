@@ -5,6 +5,6 @@
 mod print;
 mod tables_printed;
 
-fn main() {
-    tables_printed::all();
+fn main(rt: HostRuntime) -> std::io::Result<()> {
+    tables_printed::all(&rt)
 }

@@ -4,8 +4,6 @@ ghost use Rattle.std.specs.Prelude.{◌≡◌, ◌+◌, ◌-◌, ◌≤◌, min,
 ghost use Rattle.std.proofs.Math.Seq.{paste};
 ghost use Rattle.io.specs.Digits.{last_digits, IsDigitCount};
 
-use libc::STDOUT_FILENO;
-
 // Puts a text as it stands.
 pub(crate) fn put_text(line: &mut [u8], at: usize, text: &[u8]) -> usize
     requires { at + length text.now ≤ length line.old }
@@ -45,7 +43,7 @@ pub(crate) fn put_hex(line: &mut [u8], at: usize, n: u64, width: usize) -> usize
 }
 
 // Writes the line and its end to standard output.
-pub(crate) fn write_line(line: &[u8]) {
-    io::write_all(STDOUT_FILENO, line);
-    io::write_all(STDOUT_FILENO, b"\n");
+pub(crate) fn write_line(rt: &impl Print, line: &[u8]) -> std::io::Result<()> {
+    rt.write_all(line)?;
+    rt.write_all(b"\n")
 }

@@ -95,7 +95,13 @@ fn put_entry(line: &mut [u8], at: usize, n: u64, digits: usize) -> usize
 }
 
 // Prints the entries from `first` to `end` in a row.
-fn print_row(which: Table, first: usize, end: usize, digits: usize)
+fn print_row(
+    rt: &impl Print,
+    which: Table,
+    first: usize,
+    end: usize,
+    digits: usize,
+) -> std::io::Result<()>
     requires { (end ≤ size_of which) × (end ≤ first + 10) }
 {
     let mut line = [0u8; 320];
@@ -105,20 +111,26 @@ fn print_row(which: Table, first: usize, end: usize, digits: usize)
         at = put_entry(&mut line, at, value(which, i), digits);
         i += 1;
     }
-    write_line(&line[..at]);
+    write_line(rt, &line[..at])
 }
 
 // Prints a table of `count` entries: its title, its rows, an empty line.
-fn print_table(title: &[u8], which: Table, count: usize, digits: usize)
+fn print_table(
+    rt: &impl Print,
+    title: &str,
+    which: Table,
+    count: usize,
+    digits: usize,
+) -> std::io::Result<()>
     requires { (count ≤ size_of which) × (count ≤ 256) }
 {
-    write_line(title);
+    println!(rt; "{title}")?;
     let mut first = 0;
     while first < count {
-        print_row(which, first, least(first + 10, count), digits);
+        print_row(rt, which, first, least(first + 10, count), digits)?;
         first += 10;
     }
-    write_line(b"");
+    println!(rt; "")
 }
 
 fn least(a: usize, b: usize) -> usize
@@ -127,71 +139,82 @@ fn least(a: usize, b: usize) -> usize
     if a < b { a } else { b }
 }
 
-fn parameters() {
-    print_table(b"Table 7.6 slowdec (4 entries)", Table::Slowdec, 4, 2);
-    print_table(b"Table 7.7 fastdec (4 entries)", Table::Fastdec, 4, 2);
-    print_table(b"Table 7.8 slowgain (4 entries)", Table::Slowgain, 4, 3);
-    print_table(b"Table 7.9 dbpbtab (4 entries)", Table::Dbpbtab, 4, 3);
+fn parameters(rt: &impl Print) -> std::io::Result<()> {
+    print_table(rt, "Table 7.6 slowdec (4 entries)", Table::Slowdec, 4, 2)?;
+    print_table(rt, "Table 7.7 fastdec (4 entries)", Table::Fastdec, 4, 2)?;
+    print_table(rt, "Table 7.8 slowgain (4 entries)", Table::Slowgain, 4, 3)?;
+    print_table(rt, "Table 7.9 dbpbtab (4 entries)", Table::Dbpbtab, 4, 3)?;
     print_table(
-        b"Table 7.10 floortab (16-bit two's complement: the last is -2048) (8 entries)",
+        rt,
+        "Table 7.10 floortab (16-bit two's complement: the last is -2048) (8 entries)",
         Table::Floortab,
         8,
         4,
-    );
-    print_table(b"Table 7.11 fastgain (8 entries)", Table::Fastgain, 8, 3);
+    )?;
+    print_table(rt, "Table 7.11 fastgain (8 entries)", Table::Fastgain, 8, 3)
 }
 
-fn bands() {
-    print_table(b"Table 7.12 bndtab (50 entries)", Table::Bndtab, 50, 0);
-    print_table(b"Table 7.12 bndsz (50 entries)", Table::Bndsz, 50, 0);
-    print_table(b"Table 7.13 masktab (256 entries)", Table::Masktab, 256, 0);
-}
-
-fn masking() {
-    print_table(b"Table 7.14 latab (256 entries)", Table::Latab, 256, 2);
+fn bands(rt: &impl Print) -> std::io::Result<()> {
+    print_table(rt, "Table 7.12 bndtab (50 entries)", Table::Bndtab, 50, 0)?;
+    print_table(rt, "Table 7.12 bndsz (50 entries)", Table::Bndsz, 50, 0)?;
     print_table(
-        b"Table 7.15 hth, fscod 0 (48 kHz) (50 entries)",
+        rt,
+        "Table 7.13 masktab (256 entries)",
+        Table::Masktab,
+        256,
+        0,
+    )
+}
+
+fn masking(rt: &impl Print) -> std::io::Result<()> {
+    print_table(rt, "Table 7.14 latab (256 entries)", Table::Latab, 256, 2)?;
+    print_table(
+        rt,
+        "Table 7.15 hth, fscod 0 (48 kHz) (50 entries)",
         Table::Hth(0),
         50,
         4,
-    );
+    )?;
     print_table(
-        b"Table 7.15 hth, fscod 1 (44.1 kHz) (50 entries)",
+        rt,
+        "Table 7.15 hth, fscod 1 (44.1 kHz) (50 entries)",
         Table::Hth(1),
         50,
         4,
-    );
+    )?;
     print_table(
-        b"Table 7.15 hth, fscod 2 (32 kHz) (50 entries)",
+        rt,
+        "Table 7.15 hth, fscod 2 (32 kHz) (50 entries)",
         Table::Hth(2),
         50,
         4,
-    );
+    )
 }
 
-fn quantizer() {
-    print_table(b"Table 7.16 baptab (64 entries)", Table::Baptab, 64, 0);
+fn quantizer(rt: &impl Print) -> std::io::Result<()> {
+    print_table(rt, "Table 7.16 baptab (64 entries)", Table::Baptab, 64, 0)?;
     print_table(
-        b"Table 7.18 bits of a mantissa by bap (a group's bits for 1, 2, 4)",
+        rt,
+        "Table 7.18 bits of a mantissa by bap (a group's bits for 1, 2, 4)",
         Table::QuantizationBits,
         16,
         0,
-    );
+    )
 }
 
-fn levels() {
-    print_table(b"Table 7.19 bap 1, 3 levels", Table::Level(1), 3, 8);
-    print_table(b"Table 7.20 bap 2, 5 levels", Table::Level(2), 5, 8);
-    print_table(b"Table 7.21 bap 3, 7 levels", Table::Level(3), 7, 8);
-    print_table(b"Table 7.22 bap 4, 11 levels", Table::Level(4), 11, 8);
-    print_table(b"Table 7.23 bap 5, 15 levels", Table::Level(5), 15, 8);
+fn levels(rt: &impl Print) -> std::io::Result<()> {
+    print_table(rt, "Table 7.19 bap 1, 3 levels", Table::Level(1), 3, 8)?;
+    print_table(rt, "Table 7.20 bap 2, 5 levels", Table::Level(2), 5, 8)?;
+    print_table(rt, "Table 7.21 bap 3, 7 levels", Table::Level(3), 7, 8)?;
+    print_table(rt, "Table 7.22 bap 4, 11 levels", Table::Level(4), 11, 8)?;
+    print_table(rt, "Table 7.23 bap 5, 15 levels", Table::Level(5), 15, 8)
 }
 
 // Prints all tables in the standard's order.
-pub(crate) fn all() {
-    parameters();
-    bands();
-    masking();
-    quantizer();
-    levels();
+pub(crate) fn all(rt: &impl Print) -> std::io::Result<()> {
+    parameters(rt)?;
+    bands(rt)?;
+    masking(rt)?;
+    quantizer(rt)?;
+    levels(rt)
 }

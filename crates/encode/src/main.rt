@@ -2,48 +2,43 @@
 // their sum on standard output, or the number of the refusal.
 #![tactic(auto)]
 
-fn line(block: u64, exponent_bits: u32, mantissa_bits: u32) {
-    io::write_all(1, b"block ");
-    io::print_decimal(1, block);
-    io::write_all(1, b" ");
-    io::print_decimal(1, exponent_bits as u64);
-    io::write_all(1, b" ");
-    io::print_decimal(1, mantissa_bits as u64);
-    io::write_all(1, b"\n");
-}
+ghost use Rattle.std.specs.Prelude.{◌≤◌, IfOk, length};
 
-fn total(bits: u32) {
-    io::write_all(1, b"total ");
-    io::print_decimal(1, bits as u64);
-    io::write_all(1, b"\n");
-}
+use std::io;
+use std::io::Read;
 
-fn refused(number: u32) {
-    io::write_all(1, b"refused ");
-    io::print_decimal(1, number as u64);
-    io::write_all(1, b"\n");
+// Reads until the buffer is full or the input ends, and returns how many bytes were read.
+fn read_full(from: &mut impl Read, buf: &mut [u8]) -> io::Result<usize>
+    ensures { IfOk result (λ n. n ≤ length buf.new) }
+{
+    let mut done = 0;
+    while done < buf.len() {
+        let n = from.read(&mut buf[done..])?;
+        if n == 0 {
+            break;
+        }
+        done += n;
+    }
+    Ok(done)
 }
 
 // Six exponent counts, then six mantissa counts.
-fn lines(counts: [u32; 12]) {
-    line(0, counts[0], counts[6]);
-    line(1, counts[1], counts[7]);
-    line(2, counts[2], counts[8]);
-    line(3, counts[3], counts[9]);
-    line(4, counts[4], counts[10]);
-    line(5, counts[5], counts[11]);
+fn lines(rt: &impl Print, counts: [u32; 12]) -> io::Result<()> {
+    for block in 0..6 {
+        println!(rt; "block {block} {} {}", counts[block], counts[6 + block])?;
+    }
+    Ok(())
 }
 
 // The longest sheet has 65,537 bytes and the most coefficients 36,864: a longer input is seen to be too long.
-fn main() {
+fn main(rt: HostRuntime) -> io::Result<()> {
     let mut input = [0u8; 103000];
-    let n = io::read_full(0, &mut input);
+    let n = read_full(&mut rt.reader(), &mut input)?;
     let answer = input::encode_input(&input[..n]);
     if answer.refusal != 0 {
-        refused(answer.refusal);
-        return;
+        return println!(rt; "refused {}", answer.refusal);
     }
-    let counts = answer.counts;
-    lines(counts);
-    total(answer.bits); // the sum of the twelve: frame/specs/Theorems.antt, `body-count`
+    lines(&rt, answer.counts)?;
+    // the sum of the twelve: frame/specs/Theorems.antt, `body-count`
+    println!(rt; "total {}", answer.bits)
 }

@@ -1,6 +1,7 @@
 // `write_exponents_grouped` and `read_exponents_grouped`: the output, or what is read, starts as bytes of 170, and is shown as a whole.
 use crate::cases::fill;
-use crate::print::{answer, buffer, colon, line_end, place, title};
+use crate::print::{answer, buffer};
+use std::io;
 
 fn shape(exp: &mut [u8], rule: usize, grpsize: usize) {
     fill(exp, rule);
@@ -16,183 +17,198 @@ fn shape_below(exp: &mut [u8], end: usize, rule: usize, grpsize: usize) {
 }
 
 // Writes to the first `room` bytes of the output.
-fn write(out: &mut [u8], room: usize, exp: &[u8], end: usize, grpsize: usize) {
+fn write(
+    rt: &impl Print,
+    out: &mut [u8],
+    room: usize,
+    exp: &[u8],
+    end: usize,
+    grpsize: usize,
+) -> io::Result<()> {
     if out.len() < room {
-        return;
+        return Ok(());
     }
-    answer(exponents::write_exponents_grouped(&mut out[0..room], exp, end, grpsize));
-    buffer(out);
+    answer(
+        rt,
+        exponents::write_exponents_grouped(&mut out[0..room], exp, end, grpsize),
+    )?;
+    buffer(rt, out)
 }
 
 // Reads `given` bytes of the input.
-fn read(input: &[u8], end: usize, grpsize: usize, given: usize) {
+fn read(rt: &impl Print, input: &[u8], end: usize, grpsize: usize, given: usize) -> io::Result<()> {
     let mut exp = [170u8; 256];
     if input.len() < given {
-        return;
+        return Ok(());
     }
-    answer(exponents::read_exponents_grouped(&input[0..given], end, grpsize, &mut exp));
-    buffer(&exp);
-    line_end();
+    answer(
+        rt,
+        exponents::read_exponents_grouped(&input[0..given], end, grpsize, &mut exp),
+    )?;
+    buffer(rt, &exp)?;
+    println!(rt; "")
 }
 
 // Writes exponents shaped by a rule to `room` bytes, and reads `given` bytes of them.
-fn coded(rule: usize, end: usize, grpsize: usize, room: usize, given: usize) {
+fn coded(
+    rt: &impl Print,
+    rule: usize,
+    end: usize,
+    grpsize: usize,
+    room: usize,
+    given: usize,
+) -> io::Result<()> {
     let mut exp = [0u8; 256];
     let mut out = [170u8; 80];
-    title(b"code");
-    place(rule);
-    place(end);
-    place(grpsize);
-    place(room);
-    place(given);
-    colon();
+    print!(rt; "code {rule} {end} {grpsize} {room} {given}:")?;
     shape_below(&mut exp, end, rule, grpsize);
-    write(&mut out, room, &exp, end, grpsize);
-    read(&out, end, grpsize, given);
+    write(rt, &mut out, room, &exp, end, grpsize)?;
+    read(rt, &out, end, grpsize, given)
 }
 
 // With as many bytes as the bits need, and one less or more.
-fn sized(rule: usize, end: usize, grpsize: usize, size: usize) {
+fn sized(rt: &impl Print, rule: usize, end: usize, grpsize: usize, size: usize) -> io::Result<()> {
     if size == 0 {
-        return;
+        return Ok(());
     }
     if 79 < size {
-        return;
+        return Ok(());
     }
-    coded(rule, end, grpsize, size, size);
-    coded(rule, end, grpsize, size - 1, size);
-    coded(rule, end, grpsize, size, size - 1);
-    coded(rule, end, grpsize, size + 1, size + 1);
+    coded(rt, rule, end, grpsize, size, size)?;
+    coded(rt, rule, end, grpsize, size - 1, size)?;
+    coded(rt, rule, end, grpsize, size, size - 1)?;
+    coded(rt, rule, end, grpsize, size + 1, size + 1)
 }
 
-fn ruled(rule: usize) {
-    sized(rule, 7, 1, 3);
-    sized(rule, 7, 2, 2);
-    sized(rule, 7, 4, 2);
-    sized(rule, 37, 1, 11);
-    sized(rule, 37, 2, 6);
-    sized(rule, 37, 4, 4);
-    sized(rule, 40, 1, 12);
-    sized(rule, 40, 2, 7);
-    sized(rule, 40, 4, 4);
-    sized(rule, 253, 1, 74);
-    sized(rule, 253, 2, 38);
-    sized(rule, 253, 4, 19);
+fn ruled(rt: &impl Print, rule: usize) -> io::Result<()> {
+    sized(rt, rule, 7, 1, 3)?;
+    sized(rt, rule, 7, 2, 2)?;
+    sized(rt, rule, 7, 4, 2)?;
+    sized(rt, rule, 37, 1, 11)?;
+    sized(rt, rule, 37, 2, 6)?;
+    sized(rt, rule, 37, 4, 4)?;
+    sized(rt, rule, 40, 1, 12)?;
+    sized(rt, rule, 40, 2, 7)?;
+    sized(rt, rule, 40, 4, 4)?;
+    sized(rt, rule, 253, 1, 74)?;
+    sized(rt, rule, 253, 2, 38)?;
+    sized(rt, rule, 253, 4, 19)
 }
 
-pub(crate) fn rules() {
-    ruled(0);
-    ruled(1);
-    ruled(2);
-    ruled(3);
+pub(crate) fn rules(rt: &impl Print) -> io::Result<()> {
+    ruled(rt, 0)?;
+    ruled(rt, 1)?;
+    ruled(rt, 2)?;
+    ruled(rt, 3)
 }
 
 // Ends and spans that are refused.
-pub(crate) fn refused() {
-    coded(2, 0, 1, 80, 80);
-    coded(2, 6, 1, 80, 80);
-    coded(2, 8, 1, 80, 80);
-    coded(2, 36, 1, 80, 80);
-    coded(2, 38, 1, 80, 80);
-    coded(2, 39, 2, 80, 80);
-    coded(2, 252, 4, 80, 80);
-    coded(2, 254, 4, 80, 80);
-    coded(2, 256, 1, 80, 80);
-    coded(2, 37, 3, 80, 80);
-    coded(2, 37, 0, 80, 80);
+pub(crate) fn refused(rt: &impl Print) -> io::Result<()> {
+    coded(rt, 2, 0, 1, 80, 80)?;
+    coded(rt, 2, 6, 1, 80, 80)?;
+    coded(rt, 2, 8, 1, 80, 80)?;
+    coded(rt, 2, 36, 1, 80, 80)?;
+    coded(rt, 2, 38, 1, 80, 80)?;
+    coded(rt, 2, 39, 2, 80, 80)?;
+    coded(rt, 2, 252, 4, 80, 80)?;
+    coded(rt, 2, 254, 4, 80, 80)?;
+    coded(rt, 2, 256, 1, 80, 80)?;
+    coded(rt, 2, 37, 3, 80, 80)?;
+    coded(rt, 2, 37, 0, 80, 80)
 }
 
 // Exponents as they are, to `room` bytes.
-fn written(exp: &[u8], end: usize, grpsize: usize, room: usize) {
+fn written(rt: &impl Print, exp: &[u8], end: usize, grpsize: usize, room: usize) -> io::Result<()> {
     let mut out = [170u8; 4];
-    title(b"write");
-    buffer(exp);
-    colon();
-    place(end);
-    place(grpsize);
-    place(room);
-    colon();
-    write(&mut out, room, exp, end, grpsize);
-    line_end();
+    print!(rt; "write")?;
+    buffer(rt, exp)?;
+    print!(rt; ": {end} {grpsize} {room}:")?;
+    write(rt, &mut out, room, exp, end, grpsize)?;
+    println!(rt; "")
 }
 
 // Shaped, and next to it; a slice that does not reach to end; two faults.
-pub(crate) fn not_shaped() {
-    written(&[15, 17, 19, 21, 23, 24, 24], 7, 1, 3);
-    written(&[16, 17, 19, 21, 23, 24, 24], 7, 1, 3);
-    written(&[15, 18, 19, 21, 23, 24, 24], 7, 1, 3);
-    written(&[15, 17, 19, 21, 23, 25, 24], 7, 1, 3);
-    written(&[15, 17, 19, 21, 23, 24, 21], 7, 1, 3);
-    written(&[15, 17, 19, 21, 23, 24, 24, 255], 7, 1, 3);
-    written(&[2, 0, 0, 2, 2, 4, 4], 7, 2, 2);
-    written(&[2, 0, 0, 2, 2, 4, 3], 7, 2, 2);
-    written(&[2, 0, 0, 0, 0, 2, 2], 7, 4, 2);
-    written(&[2, 0, 0, 0, 1, 2, 2], 7, 4, 2);
-    written(&[2, 0, 0, 2, 2, 4], 7, 2, 2);
-    written(&[16, 0, 0, 2, 2, 4], 7, 2, 1);
-    written(&[16, 0, 0, 2, 2, 4, 4], 7, 2, 1);
-    written(&[16, 0, 0, 2, 2, 4, 4], 38, 2, 1);
-    written(&[2, 0, 0, 2, 2, 4, 4], 257, 2, 2);
+pub(crate) fn not_shaped(rt: &impl Print) -> io::Result<()> {
+    written(rt, &[15, 17, 19, 21, 23, 24, 24], 7, 1, 3)?;
+    written(rt, &[16, 17, 19, 21, 23, 24, 24], 7, 1, 3)?;
+    written(rt, &[15, 18, 19, 21, 23, 24, 24], 7, 1, 3)?;
+    written(rt, &[15, 17, 19, 21, 23, 25, 24], 7, 1, 3)?;
+    written(rt, &[15, 17, 19, 21, 23, 24, 21], 7, 1, 3)?;
+    written(rt, &[15, 17, 19, 21, 23, 24, 24, 255], 7, 1, 3)?;
+    written(rt, &[2, 0, 0, 2, 2, 4, 4], 7, 2, 2)?;
+    written(rt, &[2, 0, 0, 2, 2, 4, 3], 7, 2, 2)?;
+    written(rt, &[2, 0, 0, 0, 0, 2, 2], 7, 4, 2)?;
+    written(rt, &[2, 0, 0, 0, 1, 2, 2], 7, 4, 2)?;
+    written(rt, &[2, 0, 0, 2, 2, 4], 7, 2, 2)?;
+    written(rt, &[16, 0, 0, 2, 2, 4], 7, 2, 1)?;
+    written(rt, &[16, 0, 0, 2, 2, 4, 4], 7, 2, 1)?;
+    written(rt, &[16, 0, 0, 2, 2, 4, 4], 38, 2, 1)?;
+    written(rt, &[2, 0, 0, 2, 2, 4, 4], 257, 2, 2)
 }
 
 // Reads the input to the first `room` entries of a buffer.
-fn read_to(exp: &mut [u8], room: usize, input: &[u8], end: usize, grpsize: usize) {
+fn read_to(
+    rt: &impl Print,
+    exp: &mut [u8],
+    room: usize,
+    input: &[u8],
+    end: usize,
+    grpsize: usize,
+) -> io::Result<()> {
     if exp.len() < room {
-        return;
+        return Ok(());
     }
-    answer(exponents::read_exponents_grouped(input, end, grpsize, &mut exp[0..room]));
-    buffer(exp);
+    answer(
+        rt,
+        exponents::read_exponents_grouped(input, end, grpsize, &mut exp[0..room]),
+    )?;
+    buffer(rt, exp)
 }
 
-fn given(input: &[u8], end: usize, grpsize: usize, room: usize) {
+fn given(rt: &impl Print, input: &[u8], end: usize, grpsize: usize, room: usize) -> io::Result<()> {
     let mut exp = [170u8; 8];
-    title(b"read");
-    buffer(input);
-    colon();
-    place(end);
-    place(grpsize);
-    place(room);
-    colon();
-    read_to(&mut exp, room, input, end, grpsize);
-    line_end();
+    print!(rt; "read")?;
+    buffer(rt, input)?;
+    print!(rt; ": {end} {grpsize} {room}:")?;
+    read_to(rt, &mut exp, room, input, end, grpsize)?;
+    println!(rt; "")
 }
 
 // Groups of 124, 125 and 127; exponents from 0 down and from 24 up; what follows the bits is not looked at.
-pub(crate) fn groups_read() {
-    given(&[15, 143, 128], 7, 1, 8);
-    given(&[15, 143, 191, 255], 7, 1, 7);
-    given(&[15, 160, 0], 7, 1, 8);
-    given(&[15, 224, 0], 7, 1, 8);
-    given(&[7, 223, 64], 7, 1, 8);
-    given(&[0, 0, 0], 7, 1, 8);
-    given(&[255, 159, 0], 7, 1, 8);
-    given(&[15, 160], 7, 1, 8);
-    given(&[7, 223], 7, 1, 8);
-    given(&[7], 7, 1, 8);
-    given(b"", 7, 1, 8);
+pub(crate) fn groups_read(rt: &impl Print) -> io::Result<()> {
+    given(rt, &[15, 143, 128], 7, 1, 8)?;
+    given(rt, &[15, 143, 191, 255], 7, 1, 7)?;
+    given(rt, &[15, 160, 0], 7, 1, 8)?;
+    given(rt, &[15, 224, 0], 7, 1, 8)?;
+    given(rt, &[7, 223, 64], 7, 1, 8)?;
+    given(rt, &[0, 0, 0], 7, 1, 8)?;
+    given(rt, &[255, 159, 0], 7, 1, 8)?;
+    given(rt, &[15, 160], 7, 1, 8)?;
+    given(rt, &[7, 223], 7, 1, 8)?;
+    given(rt, &[7], 7, 1, 8)?;
+    given(rt, b"", 7, 1, 8)
 }
 
 // A pad is ignored, whatever it leads to; a difference is not. Ends, spans and lengths that are refused.
-pub(crate) fn pads_read() {
-    given(&[33, 64], 7, 4, 8);
-    given(&[32, 64], 7, 4, 8);
-    given(&[33, 64], 7, 2, 8);
-    given(&[15, 143, 128], 7, 1, 6);
-    given(&[15, 143, 128], 7, 1, 0);
-    given(&[15, 143, 128], 7, 3, 8);
-    given(&[15, 143, 128], 38, 1, 6);
-    given(&[15, 143, 128], 37, 1, 8);
-    given(&[15, 143, 128], 0, 1, 8);
+pub(crate) fn pads_read(rt: &impl Print) -> io::Result<()> {
+    given(rt, &[33, 64], 7, 4, 8)?;
+    given(rt, &[32, 64], 7, 4, 8)?;
+    given(rt, &[33, 64], 7, 2, 8)?;
+    given(rt, &[15, 143, 128], 7, 1, 6)?;
+    given(rt, &[15, 143, 128], 7, 1, 0)?;
+    given(rt, &[15, 143, 128], 7, 3, 8)?;
+    given(rt, &[15, 143, 128], 38, 1, 6)?;
+    given(rt, &[15, 143, 128], 37, 1, 8)?;
+    given(rt, &[15, 143, 128], 0, 1, 8)
 }
 
 // A slice holds at most 256 entries.
-pub(crate) fn long_slices() {
+pub(crate) fn long_slices(rt: &impl Print) -> io::Result<()> {
     let mut exp = [0u8; 257];
-    written(&exp[0..256], 7, 1, 3);
-    written(&exp, 7, 1, 3);
-    title(b"read to 256, 257");
-    colon();
-    read_to(&mut exp, 256, b"\x0f\x8f\x80", 7, 1);
-    read_to(&mut exp, 257, b"\x0f\x8f\x80", 7, 1);
-    line_end();
+    written(rt, &exp[0..256], 7, 1, 3)?;
+    written(rt, &exp, 7, 1, 3)?;
+    print!(rt; "read to 256, 257:")?;
+    read_to(rt, &mut exp, 256, b"\x0f\x8f\x80", 7, 1)?;
+    read_to(rt, &mut exp, 257, b"\x0f\x8f\x80", 7, 1)?;
+    println!(rt; "")
 }

@@ -9,20 +9,22 @@ pub mod print;
 pub mod selects;
 pub mod shapes;
 
-fn main() {
-    shapes::starred();
-    shapes::lengths(&[0, 1, 2, 3, 36, 37, 38, 39, 40, 252, 253, 254, 255]);
-    shapes::length(256);
-    shapes::length(257);
-    picks::extracted();
-    picks::groups();
-    picks::costs();
-    codes::rules();
-    codes::refused();
-    codes::not_shaped();
-    codes::groups_read();
-    codes::pads_read();
-    codes::long_slices();
-    selects::selected();
-    selects::refused();
+use std::io;
+
+fn main(rt: HostRuntime) -> io::Result<()> {
+    shapes::starred(&rt)?;
+    shapes::lengths(&rt, &[0, 1, 2, 3, 36, 37, 38, 39, 40, 252, 253, 254, 255])?;
+    shapes::length(&rt, 256)?;
+    shapes::length(&rt, 257)?;
+    picks::extracted(&rt)?;
+    picks::groups(&rt)?;
+    picks::costs(&rt)?;
+    codes::rules(&rt)?;
+    codes::refused(&rt)?;
+    codes::not_shaped(&rt)?;
+    codes::groups_read(&rt)?;
+    codes::pads_read(&rt)?;
+    codes::long_slices(&rt)?;
+    selects::selected(&rt)?;
+    selects::refused(&rt)
 }

@@ -1,107 +1,109 @@
 // `preprocess_d15` and `quantise_exponents_to_grpsize`.
 use crate::cases::fill;
-use crate::print::{buffer, colon, line_end, number, place, title};
+use crate::print::buffer;
+use std::io;
 
-fn preprocessed(exp: &mut [u8]) {
-    title(b"d15");
-    buffer(exp);
-    colon();
-    number(shaping::preprocess_d15(exp));
-    buffer(exp);
-    line_end();
+// Shapes for D15: the refusal's number, and what is then in the buffer.
+fn show_d15(rt: &impl Print, exp: &mut [u8]) -> io::Result<()> {
+    let refusal = shaping::preprocess_d15(exp);
+    print!(rt; " {refusal}")?;
+    buffer(rt, exp)
 }
 
-fn quantised(exp: &mut [u8], grpsize: usize) {
-    title(b"span");
-    place(grpsize);
-    buffer(exp);
-    colon();
-    number(shaping::quantise_exponents_to_grpsize(exp, grpsize));
-    buffer(exp);
-    line_end();
+// The same by spans.
+fn show_spans(rt: &impl Print, exp: &mut [u8], grpsize: usize) -> io::Result<()> {
+    let refusal = shaping::quantise_exponents_to_grpsize(exp, grpsize);
+    print!(rt; " {refusal}")?;
+    buffer(rt, exp)
 }
 
-fn starred_d15() {
+fn preprocessed(rt: &impl Print, exp: &mut [u8]) -> io::Result<()> {
+    print!(rt; "d15")?;
+    buffer(rt, exp)?;
+    print!(rt; ":")?;
+    show_d15(rt, exp)?;
+    println!(rt; "")
+}
+
+fn quantised(rt: &impl Print, exp: &mut [u8], grpsize: usize) -> io::Result<()> {
+    print!(rt; "span {grpsize}")?;
+    buffer(rt, exp)?;
+    print!(rt; ":")?;
+    show_spans(rt, exp, grpsize)?;
+    println!(rt; "")
+}
+
+fn starred_d15(rt: &impl Print) -> io::Result<()> {
     let mut sevens = [24u8; 7];
-    preprocessed(&mut sevens);
+    preprocessed(rt, &mut sevens)?;
     let mut spike = [9u8, 0, 9];
-    preprocessed(&mut spike);
+    preprocessed(rt, &mut spike)?;
     let mut one = [20u8];
-    preprocessed(&mut one);
-    preprocessed(&mut one[0..0]);
+    preprocessed(rt, &mut one)?;
+    preprocessed(rt, &mut one[0..0])
 }
 
-fn starred_spans() {
+fn starred_spans(rt: &impl Print) -> io::Result<()> {
     let mut short = [6u8, 6, 6, 4, 2];
-    quantised(&mut short, 2);
+    quantised(rt, &mut short, 2)?;
     let mut long = [6u8, 6, 6, 4, 2, 2];
-    quantised(&mut long, 2);
+    quantised(rt, &mut long, 2)
 }
 
 // A short last span after a whole one, of each length: where the Rust raises an exponent.
-fn short_spans() {
+fn short_spans(rt: &impl Print) -> io::Result<()> {
     let mut of_two = [1u8, 3, 3, 0];
-    quantised(&mut of_two, 2);
+    quantised(rt, &mut of_two, 2)?;
     let mut one = [1u8, 3, 3, 3, 3, 0];
-    quantised(&mut one, 4);
+    quantised(rt, &mut one, 4)?;
     let mut two = [1u8, 3, 3, 3, 3, 0, 0];
-    quantised(&mut two, 4);
+    quantised(rt, &mut two, 4)?;
     let mut three = [1u8, 3, 3, 3, 3, 0, 0, 0];
-    quantised(&mut three, 4);
+    quantised(rt, &mut three, 4)
 }
 
-pub(crate) fn starred() {
-    starred_d15();
-    starred_spans();
-    short_spans();
+pub(crate) fn starred(rt: &impl Print) -> io::Result<()> {
+    starred_d15(rt)?;
+    starred_spans(rt)?;
+    short_spans(rt)
 }
 
 // Shaped for D15, then by spans; and by spans at once.
-fn shaped(exp: &mut [u8], rule: usize, grpsize: usize) {
-    title(b"shape");
-    place(exp.len());
-    place(rule);
-    place(grpsize);
-    colon();
+fn shaped(rt: &impl Print, exp: &mut [u8], rule: usize, grpsize: usize) -> io::Result<()> {
+    print!(rt; "shape {} {rule} {grpsize}:", exp.len())?;
     fill(exp, rule);
-    number(shaping::preprocess_d15(exp));
-    buffer(exp);
-    number(shaping::quantise_exponents_to_grpsize(exp, grpsize));
-    buffer(exp);
+    show_d15(rt, exp)?;
+    show_spans(rt, exp, grpsize)?;
     fill(exp, rule);
-    number(shaping::quantise_exponents_to_grpsize(exp, grpsize));
-    buffer(exp);
-    line_end();
+    show_spans(rt, exp, grpsize)?;
+    println!(rt; "")
 }
 
-fn spans(exp: &mut [u8], rule: usize) {
-    shaped(exp, rule, 1);
-    shaped(exp, rule, 2);
-    shaped(exp, rule, 4);
-    shaped(exp, rule, 3);
+fn spans(rt: &impl Print, exp: &mut [u8], rule: usize) -> io::Result<()> {
+    shaped(rt, exp, rule, 1)?;
+    shaped(rt, exp, rule, 2)?;
+    shaped(rt, exp, rule, 4)?;
+    shaped(rt, exp, rule, 3)
 }
 
-fn rules(exp: &mut [u8]) {
-    spans(exp, 0);
-    spans(exp, 1);
-    spans(exp, 2);
-    spans(exp, 3);
+fn rules(rt: &impl Print, exp: &mut [u8]) -> io::Result<()> {
+    spans(rt, exp, 0)?;
+    spans(rt, exp, 1)?;
+    spans(rt, exp, 2)?;
+    spans(rt, exp, 3)
 }
 
-pub(crate) fn length(n: usize) {
+pub(crate) fn length(rt: &impl Print, n: usize) -> io::Result<()> {
     let mut exp = [0u8; 257];
     if 257 < n {
-        return;
+        return Ok(());
     }
-    rules(&mut exp[0..n]);
+    rules(rt, &mut exp[0..n])
 }
 
-fn short_length(n: u8) {
-    length(n as usize);
-}
-
-pub(crate) fn lengths(sizes: &[u8]) {
-    for i in 0..sizes.len() {
-        short_length(sizes[i]);
+pub(crate) fn lengths(rt: &impl Print, sizes: &[u8]) -> io::Result<()> {
+    for size in sizes {
+        length(rt, *size as usize)?;
     }
+    Ok(())
 }

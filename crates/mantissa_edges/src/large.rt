@@ -3,6 +3,7 @@ ghost use Rattle.std.specs.Prelude.{◌≡◌, ◌<◌, length};
 
 use crate::show;
 use crate::writing::LARGEST;
+use std::io;
 
 fn bap_of(i: usize) -> u8
     ensures { result < 16 }
@@ -28,46 +29,54 @@ fn fill(bap: &mut [u8], codes: &mut [u16])
     }
 }
 
-fn write_and_read(out: &mut [u8], back: &mut [u16], bap: &[u8], codes: &[u16]) {
-    show::text(b"many");
-    show::number(bap.len() as u64);
-    show::number(codes.len() as u64);
-    show::number(out.len() as u64);
-    show::text(b":");
-    show::answer(mantissas::write_mantissa_stream(out, bap, codes));
-    show::sum_of_bytes(out);
-    show::answer(mantissas::read_mantissa_stream(out, bap, back));
-    show::sum_of_codes(back);
-    show::end();
+fn write_and_read(
+    rt: &impl Print,
+    out: &mut [u8],
+    back: &mut [u16],
+    bap: &[u8],
+    codes: &[u16],
+) -> io::Result<()> {
+    print!(rt; "many {} {} {}:", bap.len(), codes.len(), out.len())?;
+    show::answer(rt, mantissas::write_mantissa_stream(out, bap, codes))?;
+    show::sum_of_bytes(rt, out)?;
+    show::answer(rt, mantissas::read_mantissa_stream(out, bap, back))?;
+    show::sum_of_codes(rt, back)?;
+    println!(rt; "")
 }
 
 // The first m baps and n codes, into so many bytes, and read back.
-fn round(m: usize, n: usize, room: usize) {
+fn round(rt: &impl Print, m: usize, n: usize, room: usize) -> io::Result<()> {
     let mut bap = [0u8; 1540];
     let mut codes = [0u16; 1540];
     let mut back = [7u16; 1540];
     let mut out = [255u8; 1400];
     if 1540 < m {
-        return;
+        return Ok(());
     }
     if 1540 < n {
-        return;
+        return Ok(());
     }
     if 1400 < room {
-        return;
+        return Ok(());
     }
     fill(&mut bap, &mut codes);
-    write_and_read(&mut out[0..room], &mut back[0..n], &bap[0..m], &codes[0..n]);
+    write_and_read(
+        rt,
+        &mut out[0..room],
+        &mut back[0..n],
+        &bap[0..m],
+        &codes[0..n],
+    )
 }
 
-pub(crate) fn streams() {
-    round(1536, 1536, 1400);
-    round(1536, 1536, 1350);
-    round(1536, 1536, 1349);
-    round(1535, 1535, 1350);
-    round(1537, 1537, 1400);
-    round(1536, 1535, 1400);
-    round(1535, 1536, 1400);
-    round(256, 256, 256);
-    round(16, 16, 16);
+pub(crate) fn streams(rt: &impl Print) -> io::Result<()> {
+    round(rt, 1536, 1536, 1400)?;
+    round(rt, 1536, 1536, 1350)?;
+    round(rt, 1536, 1536, 1349)?;
+    round(rt, 1535, 1535, 1350)?;
+    round(rt, 1537, 1537, 1400)?;
+    round(rt, 1536, 1535, 1400)?;
+    round(rt, 1535, 1536, 1400)?;
+    round(rt, 256, 256, 256)?;
+    round(rt, 16, 16, 16)
 }

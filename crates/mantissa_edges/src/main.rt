@@ -9,20 +9,22 @@ pub mod reading;
 pub mod show;
 pub mod writing;
 
-fn main() {
-    writing::starred();
-    writing::each_bap();
-    writing::members();
-    writing::mixtures();
-    reading::values();
-    reading::cut_short();
-    large::streams();
-    coefficients::starred();
-    coefficients::each_bap();
-    coefficients::ties();
-    coefficients::all_halves();
-    coefficients::exponents();
-    blocks::lengths();
-    blocks::ends();
-    blocks::each_bap();
+use std::io;
+
+fn main(rt: HostRuntime) -> io::Result<()> {
+    writing::starred(&rt)?;
+    writing::each_bap(&rt)?;
+    writing::members(&rt)?;
+    writing::mixtures(&rt)?;
+    reading::values(&rt)?;
+    reading::cut_short(&rt)?;
+    large::streams(&rt)?;
+    coefficients::starred(&rt)?;
+    coefficients::each_bap(&rt)?;
+    coefficients::ties(&rt)?;
+    coefficients::all_halves(&rt)?;
+    coefficients::exponents(&rt)?;
+    blocks::lengths(&rt)?;
+    blocks::ends(&rt)?;
+    blocks::each_bap(&rt)
 }

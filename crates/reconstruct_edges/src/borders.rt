@@ -3,7 +3,7 @@ ghost use Rattle.std.specs.Prelude.{◌≡◌, ◌<◌, ◌≤◌, length};
 
 use crate::bins::LARGEST;
 use crate::choice::plus;
-use crate::show;
+use std::io;
 
 // How often the last code is taken, and how often the one past it is refused with 5.
 #[derive(Clone, Copy)]
@@ -47,15 +47,13 @@ pub(crate) fn borders_of(sheet: &[u8], exps: &[u8], bap: &[u8], codes: &mut [u16
     let mut refused = 0;
     for i in 0..37 {
         let largest = largest_of(bap[i]);
-        let past = std::num::wrapping_add_u16(largest, 1);
+        let past = largest.wrapping_add(1);
         taken = plus(taken, answer_with(sheet, exps, codes, i, largest) == 0);
         refused = plus(refused, answer_with(sheet, exps, codes, i, past) == 5);
     }
     Borders { taken, refused }
 }
 
-pub(crate) fn show_borders(borders: Borders) {
-    show::text(b",");
-    show::number(borders.taken as u64);
-    show::number(borders.refused as u64);
+pub(crate) fn show_borders(rt: &impl Print, borders: Borders) -> io::Result<()> {
+    print!(rt; ", {} {}", borders.taken, borders.refused)
 }

@@ -7,7 +7,7 @@ pub(crate) fn one(test: bool) -> u32 {
 
 // One more where the test holds.
 pub(crate) fn plus(count: u32, test: bool) -> u32 {
-    std::num::wrapping_add_u32(count, one(test))
+    count.wrapping_add(one(test))
 }
 
 pub(crate) fn byte_if(test: bool, byte: u8, other: u8) -> u8 {

@@ -4,7 +4,7 @@ ghost use Rattle.std.specs.Prelude.{◌≡◌, ◌<◌, ◌≤◌, length};
 use crate::borders::{borders_of, show_borders};
 use crate::choice::{byte_if, code_if};
 use crate::looking::{is_below, met_in, show_met};
-use crate::show;
+use std::io;
 
 // By its bits: both signs, and sizes from 1/2 on that fall by half about every third bin.
 fn coefficient(i: usize) -> f32
@@ -25,7 +25,7 @@ fn coefficients() -> [f32; 4608]
 }
 
 // The body of n coefficients, and the encoder's answer.
-fn encode(sheet: &[u8], n: usize, body: &mut [u8])
+fn encode(rt: &impl Print, sheet: &[u8], n: usize, body: &mut [u8]) -> io::Result<()>
     requires { n ≤ 4608 }
 {
     let coeffs = coefficients();
@@ -40,17 +40,24 @@ fn encode(sheet: &[u8], n: usize, body: &mut [u8])
         &mut codes[0..n],
         body,
     );
-    show::number(answer.refusal as u64);
+    print!(rt; " {}", answer.refusal)
 }
 
 // What is read of a body, and the reader's answer.
-fn read(sheet: &[u8], body: &[u8], exps: &mut [u8], bap: &mut [u8], codes: &mut [u16])
+fn read(
+    rt: &impl Print,
+    sheet: &[u8],
+    body: &[u8],
+    exps: &mut [u8],
+    bap: &mut [u8],
+    codes: &mut [u16],
+) -> io::Result<()>
     ensures exps_len_unchanged { length exps.new ≡ length exps.old }
     ensures bap_len_unchanged { length bap.new ≡ length bap.old }
     ensures codes_len_unchanged { length codes.new ≡ length codes.old }
 {
     let answer = frame_reader::read_body(sheet, body, exps, bap, codes);
-    show::number(answer.refusal as u64);
+    print!(rt; " {}", answer.refusal)
 }
 
 // What stands from each end on is no exponent and no code, and is ignored.
@@ -67,16 +74,24 @@ fn spoil(ends: [usize; 3], exps: &mut [u8], codes: &mut [u16])
 }
 
 // The copy, and its answer.
-fn reconstruct_read(sheet: &[u8], exps: &[u8], codes: &[u16], flags: &mut [u8], levels: &mut [f32])
+fn reconstruct_read(
+    rt: &impl Print,
+    sheet: &[u8],
+    exps: &[u8],
+    codes: &[u16],
+    flags: &mut [u8],
+    levels: &mut [f32],
+) -> io::Result<()>
     ensures flags_len_unchanged { length flags.new ≡ length flags.old }
     ensures levels_len_unchanged { length levels.new ≡ length levels.old }
 {
     let answer = reconstruct::reconstruct_body(sheet, exps, codes, flags, levels);
-    show::number(answer as u64);
+    print!(rt; " {answer}")
 }
 
 // What was met in a copy.
 fn look(
+    rt: &impl Print,
     sheet: &[u8],
     ends: [usize; 3],
     exps: &[u8],
@@ -84,18 +99,19 @@ fn look(
     codes: &mut [u16],
     flags: &[u8],
     levels: &[f32],
-)
+) -> io::Result<()>
     requires in_bounds { (37 ≤ length exps.now) × (length exps.now ≤ 4608) }
     requires bap_len { (length bap.now ≡ length exps.now) × (length codes.old ≡ length exps.now) }
     requires flags_len { (length flags.now ≡ length exps.now) × (length levels.now ≡ length exps.now) }
     ensures { length codes.new ≡ length codes.old }
 {
-    show_met(met_in(ends, exps, bap, codes, flags, levels));
-    show_borders(borders_of(sheet, exps, bap, codes));
+    show_met(rt, met_in(ends, exps, bap, codes, flags, levels))?;
+    show_borders(rt, borders_of(sheet, exps, bap, codes))
 }
 
 // The copy of what was read.
 fn copy(
+    rt: &impl Print,
     sheet: &[u8],
     ends: [usize; 3],
     exps: &mut [u8],
@@ -103,7 +119,7 @@ fn copy(
     codes: &mut [u16],
     flags: &mut [u8],
     levels: &mut [f32],
-)
+) -> io::Result<()>
     requires in_bounds { (37 ≤ length exps.old) × (length exps.old ≤ 4608) }
     requires bap_len { (length bap.now ≡ length exps.old) × (length codes.old ≡ length exps.old) }
     requires flags_len { (length flags.old ≡ length exps.old) × (length levels.old ≡ length exps.old) }
@@ -111,12 +127,13 @@ fn copy(
     ensures codes_len_unchanged { length codes.new ≡ length codes.old }
 {
     spoil(ends, exps, codes);
-    reconstruct_read(sheet, exps, codes, flags, levels);
-    look(sheet, ends, exps, bap, codes, flags, levels);
+    reconstruct_read(rt, sheet, exps, codes, flags, levels)?;
+    look(rt, sheet, ends, exps, bap, codes, flags, levels)
 }
 
 // Buffers of one length for all that comes of a body.
 fn read_and_copy(
+    rt: &impl Print,
     sheet: &[u8],
     ends: [usize; 3],
     body: &[u8],
@@ -125,17 +142,17 @@ fn read_and_copy(
     codes: &mut [u16],
     flags: &mut [u8],
     levels: &mut [f32],
-)
+) -> io::Result<()>
     requires in_bounds { (37 ≤ length exps.old) × (length exps.old ≤ 4608) }
     requires bap_len { (length bap.old ≡ length exps.old) × (length codes.old ≡ length exps.old) }
     requires flags_len { (length flags.old ≡ length exps.old) × (length levels.old ≡ length exps.old) }
 {
-    read(sheet, body, exps, bap, codes);
-    copy(sheet, ends, exps, bap, codes, flags, levels);
+    read(rt, sheet, body, exps, bap, codes)?;
+    copy(rt, sheet, ends, exps, bap, codes, flags, levels)
 }
 
 // The same with buffers of n entries.
-fn decode(sheet: &[u8], ends: [usize; 3], n: usize, body: &[u8])
+fn decode(rt: &impl Print, sheet: &[u8], ends: [usize; 3], n: usize, body: &[u8]) -> io::Result<()>
     requires { (37 ≤ n) × (n ≤ 4608) }
 {
     let mut exps = [0u8; 4608];
@@ -144,6 +161,7 @@ fn decode(sheet: &[u8], ends: [usize; 3], n: usize, body: &[u8])
     let mut flags = [165u8; 4608];
     let mut levels = [2.0f32; 4608];
     read_and_copy(
+        rt,
         sheet,
         ends,
         body,
@@ -152,33 +170,31 @@ fn decode(sheet: &[u8], ends: [usize; 3], n: usize, body: &[u8])
         &mut codes[0..n],
         &mut flags[0..n],
         &mut levels[0..n],
-    );
+    )
 }
 
 // The answers of the encoder, of the reader and of the copy; then what was met in the copy.
-fn frame(sheet: &[u8], ends: [usize; 3], n: usize)
+fn frame(rt: &impl Print, sheet: &[u8], ends: [usize; 3], n: usize) -> io::Result<()>
     requires { (37 ≤ n) × (n ≤ 4608) }
 {
     let mut body = [0u8; 4096];
-    show::text(b"frame");
-    show::number(n as u64);
-    show::text(b":");
-    encode(sheet, n, &mut body);
-    decode(sheet, ends, n, &body);
-    show::end();
+    print!(rt; "frame {n}:")?;
+    encode(rt, sheet, n, &mut body)?;
+    decode(rt, sheet, ends, n, &body)?;
+    println!(rt; "")
 }
 
 // One channel of end 37.
-pub(crate) fn one_channel() {
+pub(crate) fn one_channel(rt: &impl Print) -> io::Result<()> {
     let sheet = b"\x00\x15\x01\x00\x01\x00\x02\x01\x01\x02\x04\x08\
         \x00\x25\x01\x00\x00\x00\x00\x00\x00\x04\x00";
-    frame(sheet, [37, 37, 37], 1536);
+    frame(rt, sheet, [37, 37, 37], 1536)
 }
 
 // Two channels of ends 73 and 37 and the LFE, with every strategy.
-pub(crate) fn three_channels() {
+pub(crate) fn three_channels(rt: &impl Print) -> io::Result<()> {
     let sheet = sheet_of_three();
-    frame(&sheet, [73, 37, 7], 4608);
+    frame(rt, &sheet, [73, 37, 7], 4608)
 }
 
 // Its strategies are D25, D25, reuse, D45, D15, reuse; D45, D45, reuse, reuse, D25, reuse; D15, reuse, reuse, D15, D15, reuse.

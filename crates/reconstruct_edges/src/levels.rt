@@ -3,6 +3,7 @@ ghost use Rattle.std.specs.Prelude.{◌<◌};
 
 use crate::show;
 use reconstruct::{flag_of, level_of, reconstruct_mantissa};
+use std::io;
 
 // The digest of a row of bins is a number with a digit for each bin, in base 1000003 and modulo 2^33 + 17. That is a prime above every digit, so
 // a changed bin changes the digest; and no power of the base up to its 65,536th is 1 modulo it, so two that are exchanged change it too.
@@ -37,15 +38,13 @@ fn with_digit(digest: u64, digit: u64) -> u64
 
 // How many codes a bap has: the first one that is refused. None has more than 65,536.
 fn code_count(exponent: u32, bap: u32) -> u32 {
-    let mut code = 0;
-    while code < 65537 {
+    for code in 0..65537 {
         let answer = reconstruct_mantissa(exponent, bap, code);
         if answer.refusal != 0 {
             return code;
         }
-        code += 1;
     }
-    code
+    65537
 }
 
 fn digest(exponent: u32, bap: u32, count: u32) -> u64 {
@@ -56,37 +55,36 @@ fn digest(exponent: u32, bap: u32, count: u32) -> u64 {
     all
 }
 
-fn level(exponent: u32, bap: u32, code: u32) {
+fn level(rt: &impl Print, exponent: u32, bap: u32, code: u32) -> io::Result<()> {
     let answer = reconstruct_mantissa(exponent, bap, code);
     let bin = answer.bin;
-    show::number(show::pattern_of(level_of(bin)) as u64);
+    print!(rt; " {}", show::pattern_of(level_of(bin)))
 }
 
 // How many codes there are, the digest of what they stand for, and the level of the first, the middle and the last.
-fn codes(exponent: u32, bap: u32) {
+fn codes(rt: &impl Print, exponent: u32, bap: u32) -> io::Result<()> {
     let count = code_count(exponent, bap);
-    show::text(b"codes");
-    show::number(exponent as u64);
-    show::number(bap as u64);
-    show::text(b":");
-    show::number(count as u64);
-    show::number(digest(exponent, bap, count));
-    level(exponent, bap, 0);
-    level(exponent, bap, count / 2);
-    level(exponent, bap, std::num::wrapping_sub_u32(count, 1));
-    show::end();
+    print!(rt;
+        "codes {exponent} {bap}: {count} {}",
+        digest(exponent, bap, count)
+    )?;
+    level(rt, exponent, bap, 0)?;
+    level(rt, exponent, bap, count / 2)?;
+    level(rt, exponent, bap, count.wrapping_sub(1))?;
+    println!(rt; "")
 }
 
-fn each_bap(exponent: u32) {
+fn each_bap(rt: &impl Print, exponent: u32) -> io::Result<()> {
     for bap in 0..16 {
-        codes(exponent, bap);
+        codes(rt, exponent, bap)?;
     }
+    Ok(())
 }
 
-pub(crate) fn each_exponent() {
-    each_bap(0);
-    each_bap(1);
-    each_bap(12);
-    each_bap(23);
-    each_bap(24);
+pub(crate) fn each_exponent(rt: &impl Print) -> io::Result<()> {
+    each_bap(rt, 0)?;
+    each_bap(rt, 1)?;
+    each_bap(rt, 12)?;
+    each_bap(rt, 23)?;
+    each_bap(rt, 24)
 }

@@ -4,6 +4,7 @@ ghost use Rattle.std.specs.Prelude.{◌≡◌, length};
 use crate::choice::{one, plus};
 use crate::show;
 use reconstruct::{flag_of, level_of, reconstruct_mantissa};
+use std::io;
 
 // How many bins differ from the bin alone, and how many entries from an end on are not 0; how many bins are silent, and have a level.
 #[derive(Clone, Copy)]
@@ -73,11 +74,7 @@ pub(crate) fn met_in(
 }
 
 // Whether bins of both kinds were met, so that the copy was no empty one.
-pub(crate) fn show_met(met: Met) {
-    show::text(b",");
-    show::number(met.differing as u64);
-    show::number(met.beyond as u64);
-    show::text(b",");
-    show::number(one(met.silent > 0) as u64);
-    show::number(one(met.levels > 0) as u64);
+pub(crate) fn show_met(rt: &impl Print, met: Met) -> io::Result<()> {
+    print!(rt; ", {} {},", met.differing, met.beyond)?;
+    print!(rt; " {} {}", one(met.silent > 0), one(met.levels > 0))
 }

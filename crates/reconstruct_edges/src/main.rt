@@ -11,16 +11,18 @@ pub mod levels;
 pub mod looking;
 pub mod show;
 
-fn main() {
-    levels::each_exponent();
-    bins::ranges();
-    bins::exponents();
-    bins::baps();
-    bins::two_faults();
-    frames::one_channel();
-    frames::three_channels();
-    faults::together();
-    faults::lengths();
-    faults::exponents();
-    faults::codes();
+use std::io;
+
+fn main(rt: HostRuntime) -> io::Result<()> {
+    levels::each_exponent(&rt)?;
+    bins::ranges(&rt)?;
+    bins::exponents(&rt)?;
+    bins::baps(&rt)?;
+    bins::two_faults(&rt)?;
+    frames::one_channel(&rt)?;
+    frames::three_channels(&rt)?;
+    faults::together(&rt)?;
+    faults::lengths(&rt)?;
+    faults::exponents(&rt)?;
+    faults::codes(&rt)
 }

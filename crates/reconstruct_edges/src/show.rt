@@ -1,19 +1,6 @@
-// How a case is shown: its numbers one behind the other, then the end of the line. A level is shown by its bits.
-use libc::STDOUT_FILENO;
+// How a bin is shown: its numbers one behind the other. A level is shown by its bits.
 use reconstruct::{BinAnswer, flag_of, level_of};
-
-pub(crate) fn text(label: &[u8]) {
-    io::write_all(STDOUT_FILENO, label);
-}
-
-pub(crate) fn number(n: u64) {
-    text(b" ");
-    io::print_decimal(STDOUT_FILENO, n);
-}
-
-pub(crate) fn end() {
-    text(b"\n");
-}
+use std::io;
 
 // What is not finite, which no level is, has a pattern that no level has.
 pub(crate) fn pattern_of(level: f32) -> u32 {
@@ -24,9 +11,12 @@ pub(crate) fn pattern_of(level: f32) -> u32 {
 }
 
 // The refusal's number, whether there is a level, and the level.
-pub(crate) fn answer(a: BinAnswer) {
+pub(crate) fn answer(rt: &impl Print, a: BinAnswer) -> io::Result<()> {
     let bin = a.bin;
-    number(a.refusal as u64);
-    number(flag_of(bin) as u64);
-    number(pattern_of(level_of(bin)) as u64);
+    print!(rt;
+        " {} {} {}",
+        a.refusal,
+        flag_of(bin),
+        pattern_of(level_of(bin))
+    )
 }

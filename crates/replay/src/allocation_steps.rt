@@ -1,6 +1,6 @@
 // The allocation of one channel, from nine codes and up to eight segments.
 use crate::cases::Case;
-use crate::compare::same_refusal;
+use crate::compare::{same_bytes, same_refusal};
 use crate::parts::at_most;
 use sheet::{BlockSet, ChannelRecord, Common, ExponentSet};
 
@@ -79,7 +79,7 @@ fn allocated(
     if !same_refusal(refusal, case) {
         return false;
     }
-    check::same(bap, left)
+    same_bytes(bap, left)
 }
 
 pub(crate) fn compute_bap(

@@ -7,6 +7,13 @@ use crate::parts::{code_of, word_of};
 use bits::Answer;
 use frame::FrameAnswer;
 
+// Whether these bytes are the ones of the part.
+pub(crate) fn same_bytes(bytes: &[u8], part: &[u8]) -> bool
+    ensures { (result ≡ true → bytes.now ≡ part.now) × (bytes.now ≡ part.now → result ≡ true) }
+{
+    bytes == part
+}
+
 // Whether these codes are the ones of the part.
 pub(crate) fn same_codes(codes: &[u16], part: &[u8]) -> bool
     ensures { (result ≡ true → SameCodes codes.now part.now) × (SameCodes codes.now part.now → result ≡ true) }

@@ -3,7 +3,7 @@
 ghost use Rattle.std.specs.Prelude.{◌≡◌, ◌*◌, ◌≤◌, length};
 
 use crate::cases::Case;
-use crate::compare::{same_answer, same_refusal};
+use crate::compare::{same_answer, same_bytes, same_refusal};
 use crate::parts::{at_most, read_codes};
 
 pub(crate) fn extract_exponent(case: Case) -> bool {
@@ -20,7 +20,7 @@ fn preprocessed(case: Case, exp: &[u8], buffer: &mut [u8], left: &[u8]) -> bool
     if !same_refusal(shaping::preprocess_d15(buffer), case) {
         return false;
     }
-    check::same(buffer, left)
+    same_bytes(buffer, left)
 }
 
 pub(crate) fn preprocess_d15(case: Case, exp: &[u8], left: &[u8]) -> bool {
@@ -40,7 +40,7 @@ fn quantised(case: Case, exp: &[u8], buffer: &mut [u8], left: &[u8]) -> bool
     if !same_refusal(refusal, case) {
         return false;
     }
-    check::same(buffer, left)
+    same_bytes(buffer, left)
 }
 
 pub(crate) fn quantise_exponents_to_grpsize(case: Case, exp: &[u8], left: &[u8]) -> bool {
@@ -69,7 +69,7 @@ fn written(case: Case, exp: &[u8], out: &mut [u8], left: &[u8]) -> bool {
     if !same_answer(answer, case) {
         return false;
     }
-    check::same(out, left)
+    same_bytes(out, left)
 }
 
 pub(crate) fn write_exponents_grouped(case: Case, exp: &[u8], left: &[u8]) -> bool {
@@ -88,7 +88,7 @@ fn read(case: Case, input: &[u8], exp: &mut [u8], left: &[u8]) -> bool {
     if !same_answer(answer, case) {
         return false;
     }
-    check::same(exp, left)
+    same_bytes(exp, left)
 }
 
 pub(crate) fn read_exponents_grouped(case: Case, input: &[u8], left: &[u8]) -> bool {
@@ -106,7 +106,7 @@ pub(crate) fn pick_strategy_for_block(case: Case, exp: &[u8]) -> bool {
 
 // The strategies of a channel.
 fn same_row(row: [u8; 6], left: &[u8]) -> bool {
-    check::same(&row, left)
+    same_bytes(&row, left)
 }
 
 // Six channels by six blocks.

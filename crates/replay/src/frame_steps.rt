@@ -2,7 +2,7 @@
 ghost use Rattle.std.specs.Prelude.{◌*◌, ◌≤◌, length};
 
 use crate::cases::Case;
-use crate::compare::{same_codes, same_frame_answer, same_frame_counts};
+use crate::compare::{same_bytes, same_codes, same_frame_answer, same_frame_counts};
 use crate::parts::{at_most, read_codes, read_coefficients};
 
 fn encoded(
@@ -24,10 +24,10 @@ fn encoded(
         return false;
     }
     same_frame_counts(answer, counts)
-        & check::same(exps, left_exps)
-        & check::same(bap, left_bap)
+        & same_bytes(exps, left_exps)
+        & same_bytes(bap, left_bap)
         & same_codes(codes, left_codes)
-        & check::same(body, left_body)
+        & same_bytes(body, left_body)
 }
 
 // With outputs of the lengths that the case asks for.
@@ -128,7 +128,7 @@ fn written(
     if !same_frame_answer(answer, case) {
         return false;
     }
-    same_frame_counts(answer, counts) & check::same(body, left_body)
+    same_frame_counts(answer, counts) & same_bytes(body, left_body)
 }
 
 pub(crate) fn write_body(
@@ -160,7 +160,7 @@ fn same_bap(bap: &[u8], left_bap: &[u8]) -> bool {
     if left_bap.len() == 0 {
         return true;
     }
-    check::same(bap, left_bap)
+    same_bytes(bap, left_bap)
 }
 
 fn read(
@@ -180,7 +180,7 @@ fn read(
         return false;
     }
     same_frame_counts(answer, counts)
-        & check::same(exps, left_exps)
+        & same_bytes(exps, left_exps)
         & same_bap(bap, left_bap)
         & same_codes(codes, left_codes)
 }

@@ -17,12 +17,15 @@ pub mod reading;
 pub mod reconstruct_steps;
 pub mod sheet_steps;
 
-fn main() {
+use std::io;
+
+fn main(rt: HostRuntime) -> io::Result<()> {
     let mut ran = [0u32; 19];
     let mut differed = [0u32; 19];
-    let whole = reading::each_case(&mut ran, &mut differed);
-    lines::all(ran, differed);
+    let whole = reading::each_case(&mut rt.reader(), &mut ran, &mut differed)?;
+    lines::all(&rt, ran, differed)?;
     if !whole {
-        lines::damaged();
+        lines::damaged(&rt)?;
     }
+    Ok(())
 }

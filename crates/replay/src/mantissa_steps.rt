@@ -3,7 +3,7 @@
 ghost use Rattle.std.specs.Prelude.{◌*◌, ◌≤◌, length};
 
 use crate::cases::Case;
-use crate::compare::{same_answer, same_codes, same_counts, same_refusal};
+use crate::compare::{same_answer, same_bytes, same_codes, same_counts, same_refusal};
 use crate::parts::{at_most, read_codes};
 
 pub(crate) fn quantise_mantissa(case: Case) -> bool {
@@ -28,7 +28,7 @@ fn written(
     if !same_answer(mantissas::write_mantissa_stream(out, bap, codes), case) {
         return false;
     }
-    check::same(out, left)
+    same_bytes(out, left)
 }
 
 pub(crate) fn write_mantissa_stream(case: Case, bap: &[u8], part: &[u8], left: &[u8]) -> bool {

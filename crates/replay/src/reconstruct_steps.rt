@@ -3,7 +3,7 @@
 ghost use Rattle.std.specs.Prelude.{◌*◌, ◌≤◌, length};
 
 use crate::cases::Case;
-use crate::compare::{same_levels, same_refusal};
+use crate::compare::{same_bytes, same_levels, same_refusal};
 use crate::parts::{at_most, read_codes};
 use reconstruct::{flag_of, level_of};
 
@@ -14,7 +14,7 @@ pub(crate) fn reconstruct_mantissa(case: Case, left_has: &[u8], left_level: &[u8
         return false;
     }
     let bin = answer.bin;
-    check::same(&[flag_of(bin)], left_has) & same_levels(&[level_of(bin)], left_level)
+    same_bytes(&[flag_of(bin)], left_has) & same_levels(&[level_of(bin)], left_level)
 }
 
 fn copied(
@@ -39,7 +39,7 @@ fn copied(
     ) {
         return false;
     }
-    check::same(has, left_has) & same_levels(levels, left_levels)
+    same_bytes(has, left_has) & same_levels(levels, left_levels)
 }
 
 pub(crate) fn reconstruct_body(

@@ -8,20 +8,22 @@ pub mod sheets;
 pub mod structure;
 pub mod values;
 
-fn main() {
-    structure::heads();
-    structure::cuts();
-    structure::segment_counts();
-    structure::long_sheets();
-    structure::two_faults();
-    values::common_part();
-    values::records();
-    values::lfe();
-    channels::counts();
-    channels::each_once();
-    channels::lfe();
-    order::places_of_the_lfe();
-    order::not_each_once();
-    order::other_faults();
-    order::every_order();
+use std::io;
+
+fn main(rt: HostRuntime) -> io::Result<()> {
+    structure::heads(&rt)?;
+    structure::cuts(&rt)?;
+    structure::segment_counts(&rt)?;
+    structure::long_sheets(&rt)?;
+    structure::two_faults(&rt)?;
+    values::common_part(&rt)?;
+    values::records(&rt)?;
+    values::lfe(&rt)?;
+    channels::counts(&rt)?;
+    channels::each_once(&rt)?;
+    channels::lfe(&rt)?;
+    order::places_of_the_lfe(&rt)?;
+    order::not_each_once(&rt)?;
+    order::other_faults(&rt)?;
+    order::every_order(&rt)
 }

@@ -2,8 +2,8 @@
 ghost use Rattle.std.specs.Prelude.{◌≡◌, ◌+◌, ◌<◌, ◌≤◌, length};
 
 use crate::sheets::{judge, put};
-use libc::STDOUT_FILENO;
 use sheet::read::wide;
+use std::io;
 
 // The LFE is channel n.
 fn end_of(channel: u8, n: u8) -> u8 {
@@ -58,66 +58,74 @@ fn sheet_of(bytes: &mut [u8], n: u8, lfe: u8, channels: &[u8]) -> usize
 }
 
 // That sheet with one byte changed.
-fn arranged_edited(label: &[u8], n: u8, lfe: u8, channels: &[u8], at: usize, value: u8) {
+fn arranged_edited(
+    rt: &impl Print,
+    label: &str,
+    n: u8,
+    lfe: u8,
+    channels: &[u8],
+    at: usize,
+    value: u8,
+) -> io::Result<()> {
     let mut bytes = [0u8; 168];
     if 6 < channels.len() {
-        return;
+        return Ok(());
     }
     if 168 <= at {
-        return;
+        return Ok(());
     }
     let size = sheet_of(&mut bytes, n, lfe, channels);
     put(&mut bytes, at, value);
-    judge(label, &bytes[0..size]);
+    judge(rt, label, &bytes[0..size])
 }
 
 // That sheet as it is: its version is 1.
-fn arranged(label: &[u8], n: u8, lfe: u8, channels: &[u8]) {
-    arranged_edited(label, n, lfe, channels, 2, 1);
+fn arranged(rt: &impl Print, label: &str, n: u8, lfe: u8, channels: &[u8]) -> io::Result<()> {
+    arranged_edited(rt, label, n, lfe, channels, 2, 1)
 }
 
-pub(crate) fn places_of_the_lfe() {
-    arranged(b"LFE last", 2, 1, &[0, 1, 2]);
-    arranged(b"LFE between", 2, 1, &[0, 2, 1]);
-    arranged(b"LFE first", 2, 1, &[2, 0, 1]);
-    arranged(b"LFE last, channels 1 and 0", 2, 1, &[1, 0, 2]);
+pub(crate) fn places_of_the_lfe(rt: &impl Print) -> io::Result<()> {
+    arranged(rt, "LFE last", 2, 1, &[0, 1, 2])?;
+    arranged(rt, "LFE between", 2, 1, &[0, 2, 1])?;
+    arranged(rt, "LFE first", 2, 1, &[2, 0, 1])?;
+    arranged(rt, "LFE last, channels 1 and 0", 2, 1, &[1, 0, 2])
 }
 
 // A channel twice, one that the sheet has not, or one missing is a 2, whether or not the records are in order.
-pub(crate) fn not_each_once() {
-    arranged(b"channels 0, 0, 1", 2, 0, &[0, 0, 1]);
-    arranged(b"channels 0, 1, 1", 2, 0, &[0, 1, 1]);
-    arranged(b"channels 0, 1, 1 of three", 3, 0, &[0, 1, 1]);
-    arranged(b"channels 1, 0, 1", 2, 0, &[1, 0, 1]);
-    arranged(b"channels 1, 1, 0 of three", 3, 0, &[1, 1, 0]);
-    arranged(b"channels 0, 2 of two", 2, 0, &[0, 2]);
-    arranged(b"channels 2, 0 of two", 2, 0, &[2, 0]);
-    arranged(b"channels 255, 0 of two", 2, 0, &[255, 0]);
-    arranged(b"channels 1, 0 of three", 3, 0, &[1, 0]);
-    arranged(b"channels 1, 0, no record of the LFE", 2, 1, &[1, 0]);
+pub(crate) fn not_each_once(rt: &impl Print) -> io::Result<()> {
+    arranged(rt, "channels 0, 0, 1", 2, 0, &[0, 0, 1])?;
+    arranged(rt, "channels 0, 1, 1", 2, 0, &[0, 1, 1])?;
+    arranged(rt, "channels 0, 1, 1 of three", 3, 0, &[0, 1, 1])?;
+    arranged(rt, "channels 1, 0, 1", 2, 0, &[1, 0, 1])?;
+    arranged(rt, "channels 1, 1, 0 of three", 3, 0, &[1, 1, 0])?;
+    arranged(rt, "channels 0, 2 of two", 2, 0, &[0, 2])?;
+    arranged(rt, "channels 2, 0 of two", 2, 0, &[2, 0])?;
+    arranged(rt, "channels 255, 0 of two", 2, 0, &[255, 0])?;
+    arranged(rt, "channels 1, 0 of three", 3, 0, &[1, 0])?;
+    arranged(rt, "channels 1, 0, no record of the LFE", 2, 1, &[1, 0])
 }
 
 // Channel 1's record from byte 12 with one segment, then channel 0's from byte 26 with none.
-fn backwards(label: &[u8], at: usize, value: u8) {
-    arranged_edited(label, 2, 0, &[1, 0], at, value);
+fn backwards(rt: &impl Print, label: &str, at: usize, value: u8) -> io::Result<()> {
+    arranged_edited(rt, label, 2, 0, &[1, 0], at, value)
 }
 
 // 11 comes after every other number of the sheet check.
-pub(crate) fn other_faults() {
-    backwards(b"out of order", 2, 1);
-    backwards(b"out of order, fscod 3", 3, 3);
-    backwards(b"out of order, csnroffst 64", 11, 64);
-    backwards(b"out of order, first record's end 38", 13, 38);
-    backwards(b"out of order, first record's ba 8", 25, 8);
-    backwards(b"out of order, last record's block 0 strategy 0", 28, 0);
-    backwards(b"out of order, last record's fgaincod 8", 35, 8);
-    backwards(b"out of order, version 2", 2, 2);
-    backwards(b"out of order, length one less", 1, 34);
-    backwards(b"out of order, length one more", 1, 36);
-    backwards(b"out of order, first record cut short", 22, 255);
-    backwards(b"out of order, last record cut short", 36, 1);
-    arranged_edited(b"LFE first, its end 8", 2, 1, &[2, 0, 1], 13, 8);
-    arranged_edited(b"channels 1, 1, 0, version 2", 2, 0, &[1, 1, 0], 2, 2);
+pub(crate) fn other_faults(rt: &impl Print) -> io::Result<()> {
+    backwards(rt, "out of order", 2, 1)?;
+    backwards(rt, "out of order, fscod 3", 3, 3)?;
+    backwards(rt, "out of order, csnroffst 64", 11, 64)?;
+    backwards(rt, "out of order, first record's end 38", 13, 38)?;
+    backwards(rt, "out of order, first record's ba 8", 25, 8)?;
+    backwards(rt, "out of order, last record's block 0 strategy 0", 28, 0)?;
+    backwards(rt, "out of order, last record's fgaincod 8", 35, 8)?;
+    backwards(rt, "out of order, version 2", 2, 2)?;
+    backwards(rt, "out of order, length one less", 1, 34)?;
+    backwards(rt, "out of order, length one more", 1, 36)?;
+    backwards(rt, "out of order, first record cut short", 22, 255)?;
+    backwards(rt, "out of order, last record cut short", 36, 1)?;
+    arranged_edited(rt, "LFE first, its end 8", 2, 1, &[2, 0, 1], 13, 8)?;
+    arranged_edited(rt, "channels 1, 1, 0, version 2", 2, 0, &[1, 1, 0], 2, 2)
 }
 
 // The channels of a list are the digits of its number, the first record's first, so that the numbers from 0 on go through all lists.
@@ -150,71 +158,58 @@ fn counted(count: u32, answer: u32, wanted: u32) -> u32
     count
 }
 
-fn show(words: &[u8], number: u32) {
-    io::write_all(STDOUT_FILENO, words);
-    io::print_decimal(STDOUT_FILENO, number as u64);
-}
-
-fn show_channel(channel: u8) {
-    show(b" ", channel as u32);
-}
-
-fn show_channels(channels: &[u8]) {
-    for i in 0..channels.len() {
-        show_channel(channels[i]);
+fn show_channels(rt: &impl Print, channels: &[u8]) -> io::Result<()> {
+    for channel in channels {
+        print!(rt; " {channel}")?;
     }
+    Ok(())
 }
 
 // Each list that is accepted is shown.
-fn show_accepted(answer: u32, channels: &[u8]) {
+fn show_accepted(rt: &impl Print, answer: u32, channels: &[u8]) -> io::Result<()> {
     if answer != 0 {
-        return;
+        return Ok(());
     }
-    io::write_all(STDOUT_FILENO, b" accepted");
-    show_channels(channels);
-    io::write_all(STDOUT_FILENO, b",");
+    print!(rt; " accepted")?;
+    show_channels(rt, channels)?;
+    print!(rt; ",")
 }
 
-fn show_title(n: u8, lfe: u8, lists: u32) {
-    show(b"nfchans ", n as u32);
-    show(b", lfe ", lfe as u32);
-    show(b", lists of channels ", lists);
-    io::write_all(STDOUT_FILENO, b":");
+fn show_title(rt: &impl Print, n: u8, lfe: u8, lists: u32) -> io::Result<()> {
+    print!(rt; "nfchans {n}, lfe {lfe}, lists of channels {lists}:")
 }
 
-fn show_counts(out_of_order: u32, out_of_range: u32) {
-    show(b" out of order ", out_of_order);
-    show(b", out of range ", out_of_range);
-    io::write_all(STDOUT_FILENO, b"\n");
+fn show_counts(rt: &impl Print, out_of_order: u32, out_of_range: u32) -> io::Result<()> {
+    println!(rt; " out of order {out_of_order}, out of range {out_of_range}")
 }
 
 // All sheets of `size` records, each of any of the six channels that there may be: in most of them a channel comes twice, which is a 2.
-fn every_list(n: u8, lfe: u8, size: usize, lists: u32)
+fn every_list(rt: &impl Print, n: u8, lfe: u8, size: usize, lists: u32) -> io::Result<()>
     requires { (size ≤ 6) × (lists ≤ 46656) }
 {
     let mut out_of_order: u32 = 0;
     let mut out_of_range: u32 = 0;
-    show_title(n, lfe, lists);
+    show_title(rt, n, lfe, lists)?;
     for number in 0..lists {
         let channels = channels_of(number);
         let answer = answer_of(n, lfe, &channels[0..size]);
-        show_accepted(answer, &channels[0..size]);
+        show_accepted(rt, answer, &channels[0..size])?;
         out_of_order = counted(out_of_order, answer, 11);
         out_of_range = counted(out_of_range, answer, 2);
     }
-    show_counts(out_of_order, out_of_range);
+    show_counts(rt, out_of_order, out_of_range)
 }
 
 // Every order of the records is among the lists of so many channels, of which there are 6 to the power of that number.
-pub(crate) fn every_order() {
-    every_list(1, 0, 1, 6);
-    every_list(1, 1, 2, 36);
-    every_list(2, 0, 2, 36);
-    every_list(2, 1, 3, 216);
-    every_list(3, 0, 3, 216);
-    every_list(3, 1, 4, 1296);
-    every_list(4, 0, 4, 1296);
-    every_list(4, 1, 5, 7776);
-    every_list(5, 0, 5, 7776);
-    every_list(5, 1, 6, 46656);
+pub(crate) fn every_order(rt: &impl Print) -> io::Result<()> {
+    every_list(rt, 1, 0, 1, 6)?;
+    every_list(rt, 1, 1, 2, 36)?;
+    every_list(rt, 2, 0, 2, 36)?;
+    every_list(rt, 2, 1, 3, 216)?;
+    every_list(rt, 3, 0, 3, 216)?;
+    every_list(rt, 3, 1, 4, 1296)?;
+    every_list(rt, 4, 0, 4, 1296)?;
+    every_list(rt, 4, 1, 5, 7776)?;
+    every_list(rt, 5, 0, 5, 7776)?;
+    every_list(rt, 5, 1, 6, 46656)
 }

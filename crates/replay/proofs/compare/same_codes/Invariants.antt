@@ -1,0 +1,11 @@
+-- The entries before i are the same.
+use Rattle.std.proofs.Common.{◌-◌, ◌≡◌, ◌≤◌, take}
+use Rattle.bits.specs.Parts.{tab}
+use Rattle.replay.specs.Entries.{code_in}
+use Rattle.replay.proofs.compare.same_codes.Given as goal
+
+abbrev pub invariant-loop-i : goal.invariant-loop-i
+invariant-loop-i l = (l.i ≤ l.n) × (take l.i l.codes ≡ tab l.i (code_in l.n l.part))
+
+abbrev pub decreases-loop-i : goal.decreases-loop-i
+decreases-loop-i l = l.n - l.i
