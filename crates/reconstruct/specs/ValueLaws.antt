@@ -1,6 +1,6 @@
 -- What a code stands for, over the number of levels and over the width: a value of at most 1, of its own sign, and the value's own code.
-use Rattle.std.specs.Prelude.{◌≡◌, refl, Bool, true, false, not, cond, ℕ, suc, ◌+◌, ◌-◌, ◌*◌, ◌/◌, ◌%◌, ◌^◌, ◌≤◌, ◌<◌, min, T, ltb, eqb, ℤ, Float}
-use Rattle.std.proofs.Common.{sym, ap, subst, ◌∙◌, true≢false, le_trans, le_of_eq, lt_of_lt_of_le, mul_assoc, mul_comm, mul-one, zero-mul, mul-pos, mul-div_cancel, mul-lt-mul_of_pos_right, mod-eq_of_lt, lt-ltb, le-ltb, ltb-true, ltb-false, eqb→eq, lit<, pow-add, pow_pos, pow_mono}
+use Rattle.std.specs.Prelude.{◌≡◌, Bool, true, false, ℕ, suc, ◌+◌, ◌-◌, ◌*◌, ◌/◌, ◌^◌, ◌≤◌, ◌<◌, min, T, ltb, eqb, Float}
+use Rattle.std.proofs.Common.{sym, ap, subst, ◌∙◌, true≢false, le_trans, le_of_eq, lt_of_lt_of_le, mul_assoc, zero-mul, mul-pos, mul-div_cancel, mul-lt-mul_of_pos_right, mod-eq_of_lt, lt-ltb, le-ltb, ltb-true, ltb-false, eqb→eq, lit<, pow-add, pow_pos, pow_mono}
 use Rattle.std.proofs.Math.Nat.{lt_of_le_of_lt, pow-succ'}
 use native.Mathlib.Omega.{arith}
 use Rattle.std.specs.Float.{nan, inf, fin}

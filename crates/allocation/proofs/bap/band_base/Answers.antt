@@ -1,6 +1,5 @@
 -- The curve, the delta, the lowering and the place, one after the other.
 use native.Mathlib.Omega.{arith}
-use borrow.Author.Rules.{rules}
 use Rattle.masking.specs.Held.{held_curve}
 use Rattle.allocation.specs.Held.{base_of}
 use Rattle.allocation.proofs.bap.band_base.Goals as goal

@@ -1,11 +1,8 @@
-use Prim.Native.Nat.{ℕ, ◌-◌, ◌≤◌}
-use mathlib.Core.List.{List}
 use mathlib.Core.Path.{◌≡◌}
 use native.Mathlib.Omega.{arith}
-use lib.ListN.{length, get_or, length-set}
-use Rattle.excitation.specs.Front.{front}
+use lib.ListN.{length-set}
 use Rattle.excitation.specs.FrontLaws.{front-none, front-more}
-use Rattle.allocation.specs.Held.{base_of, held_base, base_by}
+use Rattle.allocation.specs.Held.{held_base, base_by}
 use Rattle.allocation.proofs.bap.band_bases.Invariants.{base}
 use Rattle.allocation.proofs.bap.band_bases.Goals as goal
 

@@ -3,11 +3,9 @@
 use Prim.Native.Nat.{ℕ, ◌-◌, ◌≤◌}
 use mathlib.Core.List.{List}
 use mathlib.Core.Path.{◌≡◌}
-use native.Mathlib.Omega.{arith}
-use lib.ListN.{length, get_or, length-set}
+use lib.ListN.{length, get_or}
 use Rattle.excitation.specs.Front.{front}
-use Rattle.excitation.specs.FrontLaws.{front-none, front-more}
-use Rattle.allocation.specs.Held.{base_of, held_base, base_by}
+use Rattle.allocation.specs.Held.{base_of}
 use Rattle.allocation.proofs.bap.band_bases.Given as goal
 
 unfoldable pub base : ℕ → ℕ → ℕ → List ℕ → List ℕ → List ℕ → List ℕ → ℕ → ℕ

@@ -1,9 +1,7 @@
-use Prim.Native.Nat.{ℕ, ◌-◌, ◌*◌, ◌≤◌}
-use mathlib.Core.Path.{◌≡◌, refl}
+use Prim.Native.Nat.{ℕ, ◌-◌, ◌*◌}
+use mathlib.Core.Path.{refl}
 use native.Mathlib.Omega.{arith}
-use borrow.Author.Rules.{rules}
-use lib.ListN.{length, take, get_or, length-set}
-use Rattle.bits.specs.Parts.{tab}
+use lib.ListN.{get_or, length-set}
 use Rattle.bits.specs.PartsLaws.{tab-start, tab-more, tab-end}
 use Rattle.allocation.proofs.bap.fill_band.Goals as goal
 

@@ -1,7 +1,6 @@
 -- The bases of the bands, then the few bins of the LFE, or the bins that are bands of their own and the others.
 use mathlib.Core.Path.{refl}
 use native.Mathlib.Omega.{arith}
-use borrow.Author.Rules.{rules}
 use Rattle.allocation.proofs.Filling.{bases-fit, filled-by}
 use Rattle.allocation.proofs.bap.fill_bins.Goals as goal
 

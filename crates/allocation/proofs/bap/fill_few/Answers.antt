@@ -1,8 +1,6 @@
-use Prim.Native.Nat.{◌-◌, ◌≤◌}
 use mathlib.Core.Path.{◌≡◌, refl, ap, ◌∙◌}
 use native.Mathlib.Omega.{arith}
-use lib.ListN.{length, take, length-set}
-use Rattle.bits.specs.Parts.{tab}
+use lib.ListN.{length, length-set}
 use Rattle.bits.specs.PartsLaws.{tab-start, tab-more}
 use Rattle.tables.proofs.Rules.{masktab-one}
 use Rattle.allocation.specs.Held.{bap_from}

@@ -1,13 +1,9 @@
 -- All bins before the present one have their pointers.
 use Prim.Native.Nat.{◌-◌, ◌≤◌}
-use mathlib.Core.Path.{◌≡◌, refl, ap, ◌∙◌}
-use native.Mathlib.Omega.{arith}
-use lib.ListN.{length, take, length-set}
+use mathlib.Core.Path.{◌≡◌}
+use lib.ListN.{length, take}
 use Rattle.bits.specs.Parts.{tab}
-use Rattle.bits.specs.PartsLaws.{tab-start, tab-more}
-use Rattle.tables.proofs.Rules.{masktab-one}
 use Rattle.allocation.specs.Held.{bap_from}
-use Rattle.allocation.proofs.Filling.{length-baptab, held-read, from-base}
 use Rattle.allocation.proofs.bap.fill_few.Given as goal
 
 abbrev pub invariant-loop-bin : goal.invariant-loop-bin

@@ -4,8 +4,7 @@ use native.Mathlib.Omega.{arith}
 use lib.ListN.{length, take, drop}
 use Rattle.excitation.specs.BandOrder.{NextBin}
 use Rattle.excitation.specs.BandOrderLaws.{ends_at, next-bounds}
-use Rattle.allocation.specs.Held.{bap_from}
-use Rattle.allocation.proofs.Filling.{length-window, Filled, filled-start, filled_more, filled-end, part-lengths, part-exponents, windows-read}
+use Rattle.allocation.proofs.Filling.{length-window, filled-start, filled_more, filled-end, part-lengths, part-exponents, windows-read}
 use Rattle.allocation.proofs.bap.fill_joined.Goals as goal
 use Rattle.allocation.proofs.bap.fill_joined.Goals.{After-band_end-next}
 

@@ -1,12 +1,7 @@
 -- Each turn fills one band: the laws of Filling.antt.
-use Prim.Native.Nat.{◌-◌, ◌≤◌}
-use mathlib.Core.Path.{ap, ◌∙◌}
-use native.Mathlib.Omega.{arith}
-use lib.ListN.{length, take, drop}
-use Rattle.excitation.specs.BandOrder.{NextBin}
-use Rattle.excitation.specs.BandOrderLaws.{ends_at, next-bounds}
+use Prim.Native.Nat.{◌-◌}
 use Rattle.allocation.specs.Held.{bap_from}
-use Rattle.allocation.proofs.Filling.{length-window, Filled, filled-start, filled_more, filled-end, part-lengths, part-exponents, windows-read}
+use Rattle.allocation.proofs.Filling.{Filled}
 use Rattle.allocation.proofs.bap.fill_joined.Given as goal
 
 abbrev pub invariant-loop-bin : goal.invariant-loop-bin

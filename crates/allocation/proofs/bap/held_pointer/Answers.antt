@@ -1,5 +1,4 @@
 -- The address is held before BAPTAB is read.
-use borrow.Author.Rules.{rules}
 use Rattle.allocation.proofs.bap.held_pointer.Goals as goal
 
 pub returns : goal.returns

@@ -1,8 +1,7 @@
 -- Each way out is a law of AnswerLaws.antt; a refused call leaves the slice, an accepted one fills it.
 use mathlib.Core.Path.{sym, ◌∙◌}
 use native.Mathlib.Omega.{arith}
-use borrow.Author.Rules.{rules}
-use Rattle.bits.specs.Tests.{held_false, held_true, passed, failed}
+use Rattle.bits.specs.Tests.{held_false, held_true}
 use Rattle.allocation.specs.AnswerLaws.{range-held, lengths-held, exponents-held, answer-range, answer-length, answer-exponent, answer-accepted, accepted-allocates, refused-leaves}
 use Rattle.allocation.proofs.channel.compute_bap.Goals as goal
 

@@ -1,6 +1,5 @@
 -- The pattern, 2048 up, as numbers.
 use native.Mathlib.Omega.{arith}
-use borrow.Author.Rules.{rules}
 use Rattle.allocation.specs.Held.{held_floor}
 use Rattle.allocation.proofs.initialization.held_floor.Goals as goal
 

@@ -1,6 +1,5 @@
 -- The offset, 960 up, as numbers.
 use native.Mathlib.Omega.{arith}
-use borrow.Author.Rules.{rules}
 use Rattle.allocation.specs.Held.{held_offset}
 use Rattle.allocation.proofs.initialization.held_offset.Goals as goal
 

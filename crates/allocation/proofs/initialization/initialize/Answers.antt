@@ -1,5 +1,4 @@
 -- Each parameter is the entry of its code.
-use borrow.Author.Rules.{rules}
 use Rattle.allocation.specs.Initialization.{leak_of, dbknee_of}
 use Rattle.allocation.specs.Held.{parameters_of}
 use Rattle.allocation.proofs.initialization.initialize.Goals as goal

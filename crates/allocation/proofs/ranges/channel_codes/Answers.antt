@@ -1,5 +1,4 @@
 -- More than 8 segments are too many; else the tests as they are.
-use borrow.Author.Rules.{rules}
 use borrow.Author.Tests.{le-leb, lt-leb}
 use Rattle.allocation.specs.Allocation.{channel_codes}
 use Rattle.allocation.proofs.ranges.channel_codes.Goals as goal

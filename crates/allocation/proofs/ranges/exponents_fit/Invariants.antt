@@ -1,9 +1,6 @@
 -- All exponents before the present one are at most 24.
 use Prim.Native.Nat.{◌-◌, ◌≤◌}
 use mathlib.Core.Path.{◌≡◌}
-use native.Mathlib.Numerals.{add-one}
-use native.Mathlib.Omega.{arith}
-use borrow.Author.Rules.{rules}
 use Rattle.allocation.specs.Allocation.{exponents_fit}
 use Rattle.allocation.proofs.ranges.exponents_fit.Given as goal
 

@@ -1,5 +1,4 @@
 -- The three tests as they are.
-use borrow.Author.Rules.{rules}
 use Rattle.allocation.specs.Allocation.{in_range}
 use Rattle.allocation.proofs.ranges.in_range.Goals as goal
 

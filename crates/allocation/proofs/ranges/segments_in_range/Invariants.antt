@@ -1,9 +1,6 @@
 -- All segments before the present one are in their ranges.
 use Prim.Native.Nat.{◌-◌, ◌≤◌}
 use mathlib.Core.Path.{◌≡◌}
-use native.Mathlib.Numerals.{add-one}
-use native.Mathlib.Omega.{arith}
-use borrow.Author.Rules.{rules}
 use Rattle.sheet.specs.Ranges.{all_below}
 use Rattle.allocation.specs.Allocation.{segment_in_range}
 use Rattle.allocation.proofs.ranges.segments_in_range.Given as goal

@@ -2,7 +2,6 @@
 use mathlib.Core.List.{List, [], ◌++◌}
 use mathlib.Core.Path.{◌≡◌, ◌∙◌}
 use Prim.Native.Nat.{ℕ}
-use borrow.Author.Rules.{rules}
 use lib.ListN.{replicate}
 use Rattle.tables.specs.Quantizer.{baptab}
 use Rattle.allocation.specs.Held.{window}

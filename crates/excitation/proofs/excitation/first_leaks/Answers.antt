@@ -1,7 +1,6 @@
 -- The step of the bands 0 to 6.
 use mathlib.Core.Path.{ap, ◌∙◌}
 use Prim.Native.Nat.{ℕ, ◌-◌, max}
-use borrow.Author.Rules.{rules}
 use Rattle.excitation.specs.Held.{next_begun}
 use Rattle.excitation.proofs.Exciting.{first-stepped}
 use Rattle.excitation.proofs.excitation.first_leaks.Goals as goal

@@ -1,6 +1,5 @@
 -- The LFE's last band, and the others.
 use mathlib.Core.Path.{sym, ◌∙◌}
-use borrow.Author.Rules.{rules}
 use Rattle.excitation.proofs.Exciting.{first-lowcomp, last-lowcomp}
 use Rattle.excitation.proofs.excitation.first_lowcomp.Goals as goal
 

@@ -1,5 +1,4 @@
 -- The step of the bands from 22 on.
-use borrow.Author.Rules.{rules}
 use Rattle.excitation.proofs.Exciting.{high-stepped}
 use Rattle.excitation.proofs.excitation.high_leaks.Goals as goal
 

@@ -1,7 +1,6 @@
 -- The step of the bands 7 to 21.
 use mathlib.Core.Path.{ap, ◌∙◌}
 use Prim.Native.Nat.{ℕ, max}
-use borrow.Author.Rules.{rules}
 use Rattle.excitation.proofs.Exciting.{low-stepped}
 use Rattle.excitation.proofs.excitation.low_leaks.Goals as goal
 

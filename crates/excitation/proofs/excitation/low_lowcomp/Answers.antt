@@ -1,6 +1,5 @@
 -- Below band 20 and from it on.
 use mathlib.Core.Path.{sym, ◌∙◌}
-use borrow.Author.Rules.{rules}
 use Rattle.excitation.proofs.Exciting.{low-lowcomp, high-lowcomp}
 use Rattle.excitation.proofs.excitation.low_lowcomp.Goals as goal
 

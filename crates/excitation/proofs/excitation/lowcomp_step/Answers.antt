@@ -1,6 +1,4 @@
 -- The step where the next psd is 256 above; else the quotient says whether it falls.
-use native.Mathlib.Omega.{arith}
-use borrow.Author.Rules.{rules}
 use borrow.Author.Tests.{eq-eqb}
 use Rattle.excitation.specs.Excitation.{stepped_lowcomp}
 use Rattle.excitation.proofs.Exciting.{fallen}

@@ -4,7 +4,6 @@ use mathlib.Core.List.{List}
 use mathlib.Core.Path.{◌≡◌, ap, ◌∙◌}
 use native.Mathlib.Omega.{arith}
 use lib.ListN.{take}
-use borrow.Author.Rules.{rules}
 use Rattle.excitation.specs.Front.{front}
 use Rattle.excitation.specs.Held.{excited_by}
 use Rattle.excitation.specs.FrontLaws.{take-front, front-front}

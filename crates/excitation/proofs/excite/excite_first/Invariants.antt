@@ -1,9 +1,6 @@
 -- Each turn fills the excitation of one of bands 3 to 6.
-use Prim.Native.Nat.{◌+◌, ◌-◌, ◌≤◌}
-use mathlib.Core.Path.{◌≡◌}
-use native.Mathlib.Omega.{arith}
-use Rattle.excitation.specs.FrontLaws.{front-begin}
-use Rattle.excitation.proofs.Exciting.{Excited, excited-more, excited-most}
+use Prim.Native.Nat.{◌-◌, ◌≤◌}
+use Rattle.excitation.proofs.Exciting.{Excited}
 use Rattle.excitation.proofs.excite.excite_first.Given as goal
 
 abbrev pub invariant-loop-band : goal.invariant-loop-band

@@ -1,9 +1,6 @@
 -- Each turn fills the excitation of one of the bands from 22 on.
-use Prim.Native.Nat.{◌+◌, ◌-◌, ◌≤◌}
-use mathlib.Core.Path.{◌≡◌}
-use native.Mathlib.Omega.{arith}
-use Rattle.excitation.specs.FrontLaws.{front-begin}
-use Rattle.excitation.proofs.Exciting.{Excited, excited-begun, excited-more, excited-most}
+use Prim.Native.Nat.{◌-◌, ◌≤◌}
+use Rattle.excitation.proofs.Exciting.{Excited}
 use Rattle.excitation.proofs.excite.excite_high.Given as goal
 
 abbrev pub invariant-loop-band : goal.invariant-loop-band

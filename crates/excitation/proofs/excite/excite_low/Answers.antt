@@ -1,8 +1,8 @@
-use Prim.Native.Nat.{◌+◌, ◌-◌, ◌≤◌}
+use Prim.Native.Nat.{◌+◌}
 use mathlib.Core.Path.{◌≡◌}
 use native.Mathlib.Omega.{arith}
 use Rattle.excitation.specs.FrontLaws.{front-begin}
-use Rattle.excitation.proofs.Exciting.{Excited, excited-begun, excited-more, excited-most}
+use Rattle.excitation.proofs.Exciting.{excited-begun, excited-more, excited-most}
 use Rattle.excitation.proofs.excite.excite_low.Goals as goal
 
 pub loop-band-init : goal.loop-band-init

@@ -1,10 +1,9 @@
-use Prim.Native.Nat.{◌+◌, ◌-◌, ◌≤◌}
+use Prim.Native.Nat.{◌+◌}
 use mathlib.Core.Path.{◌≡◌}
 use native.Mathlib.Omega.{arith}
-use borrow.Author.Rules.{rules}
 use Rattle.excitation.specs.Held.{after}
 use Rattle.excitation.specs.FrontLaws.{front-none}
-use Rattle.excitation.proofs.Exciting.{Excited, excited-more, excited-most}
+use Rattle.excitation.proofs.Exciting.{excited-more, excited-most}
 use Rattle.excitation.proofs.excite.excite_start.Goals as goal
 
 pub loop-band-init : goal.loop-band-init

@@ -4,7 +4,6 @@ use mathlib.Core.List.{List}
 use mathlib.Core.Path.{◌≡◌, ap, ◌∙◌}
 use native.Mathlib.Omega.{arith}
 use lib.ListN.{length, take, replicate, length-replicate}
-use borrow.Author.Rules.{rules}
 use Rattle.excitation.specs.BandPsd.{bndpsd}
 use Rattle.excitation.specs.Front.{front}
 use Rattle.excitation.specs.FrontLaws.{take-front, front-front}

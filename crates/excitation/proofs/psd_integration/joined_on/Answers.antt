@@ -1,9 +1,6 @@
-use Prim.Native.Nat.{◌-◌, ◌≤◌}
 use mathlib.Core.Path.{◌≡◌, ◌∙◌}
 use native.Mathlib.Omega.{arith}
-use Rattle.excitation.specs.BandPsd.{joined_psd}
 use Rattle.excitation.specs.BandPsdLaws.{joined_psd-more, joined_psd-most}
-use borrow.Author.Rules.{rules}
 use Rattle.excitation.proofs.psd_integration.joined_on.Goals as goal
 
 pub loop-at-init : goal.loop-at-init

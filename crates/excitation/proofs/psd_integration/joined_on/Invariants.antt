@@ -1,10 +1,7 @@
 -- After `at` bins the psds of so many are joined.
 use Prim.Native.Nat.{◌-◌, ◌≤◌}
-use mathlib.Core.Path.{◌≡◌, ◌∙◌}
-use native.Mathlib.Omega.{arith}
+use mathlib.Core.Path.{◌≡◌}
 use Rattle.excitation.specs.BandPsd.{joined_psd}
-use Rattle.excitation.specs.BandPsdLaws.{joined_psd-more, joined_psd-most}
-use borrow.Author.Rules.{rules}
 use Rattle.excitation.proofs.psd_integration.joined_on.Given as goal
 
 abbrev pub invariant-loop-at : goal.invariant-loop-at

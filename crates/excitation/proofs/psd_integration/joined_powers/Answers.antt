@@ -4,7 +4,7 @@ use native.Mathlib.Omega.{arith}
 use Rattle.excitation.specs.BandOrder.{NextBin}
 use Rattle.excitation.specs.BandOrderLaws.{ends_at, next-bounds}
 use Rattle.excitation.specs.BandPsdLaws.{joined_psd-most}
-use Rattle.excitation.proofs.Joining.{Joined, joined-start, joined-more, joined-bands}
+use Rattle.excitation.proofs.Joining.{joined-start, joined-more, joined-bands}
 use Rattle.excitation.proofs.psd_integration.joined_powers.Goals as goal
 
 -- where the band ends

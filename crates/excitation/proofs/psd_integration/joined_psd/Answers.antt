@@ -1,7 +1,6 @@
 -- One bin is joined as it is.
 use native.Mathlib.Omega.{arith}
 use Rattle.excitation.specs.BandPsd.{joined_psd}
-use borrow.Author.Rules.{rules}
 use Rattle.excitation.proofs.psd_integration.joined_psd.Goals as goal
 
 pub psd-requires : goal.psd-requires

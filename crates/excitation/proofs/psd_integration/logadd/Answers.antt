@@ -4,7 +4,6 @@ use Rattle.tables.specs.Masking.{latab}
 use Rattle.tables.proofs.Rules.{latab-most}
 use Rattle.excitation.specs.BandPsd.{logadd}
 use Rattle.tables.specs.EntryLaws.{entry-lent}
-use borrow.Author.Rules.{rules}
 use Rattle.excitation.proofs.psd_integration.logadd.Goals as goal
 
 pub overflow_cast-result-2 : goal.overflow_cast-result-2

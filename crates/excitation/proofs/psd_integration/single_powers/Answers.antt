@@ -1,10 +1,6 @@
-use Prim.Native.Nat.{◌-◌, ◌≤◌}
 use mathlib.Core.Path.{◌≡◌}
 use native.Mathlib.Omega.{arith}
-use borrow.Author.Rules.{rules}
-use lib.ListN.{length, length-set}
-use Rattle.excitation.specs.BandPsd.{bndpsd}
-use Rattle.excitation.specs.Front.{front}
+use lib.ListN.{length-set}
 use Rattle.excitation.specs.FrontLaws.{front-none, front-more}
 use Rattle.excitation.proofs.Joining.{single}
 use Rattle.excitation.proofs.psd_integration.single_powers.Goals as goal

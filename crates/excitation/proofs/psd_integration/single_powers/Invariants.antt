@@ -1,13 +1,9 @@
 -- The bands before the present one have their psds.
 use Prim.Native.Nat.{◌-◌, ◌≤◌}
 use mathlib.Core.Path.{◌≡◌}
-use native.Mathlib.Omega.{arith}
-use borrow.Author.Rules.{rules}
-use lib.ListN.{length, length-set}
+use lib.ListN.{length}
 use Rattle.excitation.specs.BandPsd.{bndpsd}
 use Rattle.excitation.specs.Front.{front}
-use Rattle.excitation.specs.FrontLaws.{front-none, front-more}
-use Rattle.excitation.proofs.Joining.{single}
 use Rattle.excitation.proofs.psd_integration.single_powers.Given as goal
 
 abbrev pub invariant-loop-k : goal.invariant-loop-k

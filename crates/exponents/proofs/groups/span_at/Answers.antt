@@ -3,7 +3,6 @@ use mathlib.Core.Path.{sym}
 use lib.ListN.{take, length-take, get_or-eq_default}
 use Rattle.exponents.proofs.Coding.{entry-taken}
 use native.Mathlib.Omega.{arith}
-use borrow.Author.Rules.{rules}
 use Rattle.exponents.proofs.groups.span_at.Goals as goal
 
 pub overflow_add-result : goal.overflow_add-result

@@ -1,5 +1,4 @@
 -- The two tests as they are.
-use borrow.Author.Rules.{rules}
 use Rattle.exponents.proofs.limits.in_range.Goals as goal
 
 pub returns : goal.returns

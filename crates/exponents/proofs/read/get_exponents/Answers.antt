@@ -4,7 +4,6 @@ use Prim.Native.Nat.{◌-◌}
 use lib.ListN.{length, take, length-take}
 use Rattle.exponents.proofs.Filling.{both-front, both_rest}
 use native.Mathlib.Omega.{arith}
-use borrow.Author.Rules.{rules}
 use Rattle.exponents.proofs.read.get_exponents.Goals as goal
 
 pub get_set-r-requires : goal.get_set-r-requires

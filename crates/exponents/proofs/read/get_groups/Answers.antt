@@ -1,21 +1,19 @@
 use mathlib.Core.Path.{◌≡◌, refl, sym, ◌∙◌}
-use mathlib.Core.List.{[], ◌∷◌}
-use Prim.Native.Nat.{◌+◌, ◌-◌, ◌*◌, ◌≤◌, ◌<◌}
+use Prim.Native.Nat.{◌<◌}
 use lib.ListN.{length, take, length-set}
 use Rattle.bits.specs.Field.{bits_of}
 use Rattle.bits.specs.FieldLaws.{length-bits_of}
 use Rattle.bits.specs.Read.{from}
 use Rattle.bits.specs.ReadLaws.{found-value, found-past}
-use Rattle.bits.specs.Reading.{ok, steps}
+use Rattle.bits.specs.Reading.{ok}
 use Rattle.bits.specs.ReadingLaws.{steps-start, steps-again, steps-fault}
 use Rattle.exponents.specs.Groups.{group_count}
 use Rattle.shaping.specs.GroupsLaws.{span-bounds}
 use Rattle.sheet.specs.RangesLaws.{end-bounds}
-use Rattle.exponents.specs.Reading.{read_group, read_groups}
+use Rattle.exponents.specs.Reading.{read_groups}
 use Rattle.exponents.proofs.Placing.{reached-none, reached-some}
 use Rattle.exponents.proofs.Turns.{turn-past, turn-bad, turn-good, first-set, groups-done}
 use native.Mathlib.Omega.{arith}
-use borrow.Author.Rules.{rules}
 use Rattle.exponents.proofs.read.get_groups.Goals as goal
 
 pub group_count-groups-requires : goal.group_count-groups-requires

@@ -5,7 +5,6 @@ use Rattle.bits.specs.FieldLaws.{length-bits_of}
 use Rattle.bits.specs.ReadLaws.{found-value, found-past}
 use Rattle.exponents.proofs.Turns.{set_past, set-came}
 use native.Mathlib.Omega.{arith}
-use borrow.Author.Rules.{rules}
 use Rattle.exponents.proofs.read.get_set.Goals as goal
 
 pub returns-in_default : goal.returns-in_default

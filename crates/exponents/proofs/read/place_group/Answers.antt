@@ -2,7 +2,6 @@
 use mathlib.Core.Path.{◌∙◌}
 use Rattle.exponents.proofs.Placing.{reached-none, reached-some, group-above, group-first, group-second, group-third}
 use native.Mathlib.Omega.{arith}
-use borrow.Author.Rules.{rules}
 use Rattle.exponents.proofs.read.place_group.Goals as goal
 
 pub returns-then-v-gt124 : goal.returns-then-v-gt124

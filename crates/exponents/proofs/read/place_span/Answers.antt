@@ -3,7 +3,6 @@ use mathlib.Core.Path.{refl}
 use Prim.Native.Nat.{◌-◌}
 use Rattle.exponents.proofs.Placing.{place-pad, place-below, place-above, place-good}
 use native.Mathlib.Omega.{arith}
-use borrow.Author.Rules.{rules}
 use Rattle.exponents.proofs.read.place_span.Goals as goal
 
 pub returns-then-p-end : goal.returns-then-p-end

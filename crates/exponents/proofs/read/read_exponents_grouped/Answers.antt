@@ -1,12 +1,11 @@
 -- Each way to answer is one of the laws of the reader's answer, and says what the slice holds.
 use mathlib.Core.Path.{refl, ◌∙◌}
 use lib.ListN.{length}
-use Rattle.bits.specs.Tests.{held_false, held_true, passed, failed}
+use Rattle.bits.specs.Tests.{held_false, held_true}
 use Rattle.bits.specs.Field.{bits_of}
 use Rattle.exponents.proofs.Filling.{all-zero}
 use Rattle.exponents.proofs.Answers.{range-parts, length-parts, read-range, read_length, read-fault, read-good, from_start}
 use native.Mathlib.Omega.{arith}
-use borrow.Author.Rules.{rules}
 use Rattle.exponents.proofs.read.read_exponents_grouped.Goals as goal
 
 pub returns-then-not-in_range : goal.returns-then-not-in_range

@@ -1,16 +1,10 @@
 -- After i groups the bits of the absolute value and of i groups are appended.
-use mathlib.Core.Path.{◌≡◌, refl, ◌∙◌}
-use Prim.Native.Nat.{◌+◌, ◌-◌, ◌*◌, ◌≤◌, ◌<◌}
+use mathlib.Core.Path.{◌≡◌}
+use Prim.Native.Nat.{◌+◌, ◌-◌, ◌*◌, ◌≤◌}
 use lib.ListN.{length, take}
 use Rattle.bits.specs.Parts.{joined}
 use Rattle.bits.specs.Write.{Put, place}
-use Rattle.bits.specs.WriteLaws.{and_then, turn-start, turn-put}
-use Rattle.exponents.specs.Groups.{group_count, group_bits}
-use Rattle.sheet.specs.RangesLaws.{end-bounds}
-use Rattle.exponents.specs.GroupsLaws.{count-inside}
-use Rattle.exponents.proofs.Coding.{set-bits}
-use native.Mathlib.Omega.{arith}
-use borrow.Author.Rules.{rules}
+use Rattle.exponents.specs.Groups.{group_bits}
 use Rattle.exponents.proofs.write.put_exponents.Given as goal
 
 abbrev pub invariant-loop-i : goal.invariant-loop-i

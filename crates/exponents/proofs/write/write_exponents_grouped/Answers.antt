@@ -3,14 +3,13 @@ use Rattle.bits.specs.Write.{place}
 use mathlib.Core.Path.{◌≡◌, refl, ◌∙◌}
 use native.Mathlib.Nat.{sub-zero}
 use lib.ListN.{length}
-use Rattle.bits.specs.Tests.{held_false, held_true, passed, failed}
+use Rattle.bits.specs.Tests.{held_false, held_true}
 use Rattle.bits.specs.WriteLaws.{step-stored, output-stored, output-left}
 use Rattle.shaping.proofs.ShapedLaws.{shaped-yes}
 use Rattle.shaping.specs.GroupsLaws.{span-bounds}
 use Rattle.sheet.specs.RangesLaws.{end-bounds}
 use Rattle.exponents.proofs.Answers.{range-parts, length-parts, written-range, written-length, written-shape, written-room, written_all}
 use native.Mathlib.Omega.{arith}
-use borrow.Author.Rules.{rules}
 use Rattle.exponents.proofs.write.write_exponents_grouped.Goals as goal
 
 pub returns-then-not-in_range : goal.returns-then-not-in_range

@@ -1,10 +1,7 @@
-use mathlib.Core.Path.{◌≡◌, refl}
-use Prim.Native.Nat.{◌-◌, ◌≤◌}
-use lib.ListN.{take}
+use mathlib.Core.Path.{refl}
 use Rattle.frame.specs.Body.{total}
 use Rattle.frame_body.proofs.Counting.{total-turn, total-within, total-end}
 use native.Mathlib.Omega.{arith}
-use borrow.Author.Rules.{rules}
 use Rattle.frame_body.proofs.count.body_size.Goals as goal
 
 pub loop-i-init : goal.loop-i-init

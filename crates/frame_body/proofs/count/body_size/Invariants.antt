@@ -1,11 +1,8 @@
 -- After i counts their sum is taken.
-use mathlib.Core.Path.{◌≡◌, refl}
+use mathlib.Core.Path.{◌≡◌}
 use Prim.Native.Nat.{◌-◌, ◌≤◌}
 use lib.ListN.{take}
 use Rattle.frame.specs.Body.{total}
-use Rattle.frame_body.proofs.Counting.{total-turn, total-within, total-end}
-use native.Mathlib.Omega.{arith}
-use borrow.Author.Rules.{rules}
 use Rattle.frame_body.proofs.count.body_size.Given as goal
 
 abbrev pub invariant-loop-i : goal.invariant-loop-i

@@ -1,15 +1,8 @@
-use mathlib.Core.Path.{◌≡◌}
 use mathlib.Core.List.{[]}
-use Prim.Native.Nat.{◌-◌, ◌≤◌}
-use lib.ListN.{length, take, drop}
-use Rattle.bits.specs.Parts.{tab}
 use Rattle.bits.specs.PartsLaws.{tab-start}
-use Rattle.mantissas.specs.Blocks.{block_baps}
-use Rattle.mantissas.specs.Stream.{bit_count}
-use Rattle.frame_body.specs.Writing.{sets_count, counts_from}
+use Rattle.frame_body.specs.Writing.{counts_from}
 use Rattle.frame_body.proofs.Counting.{two-more, two-end}
 use native.Mathlib.Omega.{arith}
-use borrow.Author.Rules.{rules}
 use Rattle.frame_body.proofs.count.count_body.Goals as goal
 
 pub loop-b-init : goal.loop-b-init

@@ -5,7 +5,6 @@ use Rattle.exponents.specs.Groups.{group_count}
 use Rattle.sheet.specs.RangesLaws.{end-bounds}
 use Rattle.frame_body.proofs.Counting.{set-none, set-groups}
 use native.Mathlib.Omega.{arith}
-use borrow.Author.Rules.{rules}
 use Rattle.frame_body.proofs.count.count_set.Goals as goal
 
 pub group_count-groups-requires : goal.group_count-groups-requires

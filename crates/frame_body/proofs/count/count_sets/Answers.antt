@@ -1,6 +1,5 @@
 use mathlib.Core.Path.{◌≡◌, refl, ap₂, ◌∙◌}
-use Prim.Native.Nat.{◌-◌, ◌*◌, ◌≤◌}
-use Rattle.sheet.specs.Settings.{channels, end_at, set_at}
+use Rattle.sheet.specs.Settings.{channels}
 use Rattle.mantissas.specs.Formula.{sum}
 use Rattle.frame.specs.Under.{channel-known, held-set, held-known}
 use Rattle.frame_rows.specs.RowsLaws.{channel-there}
@@ -8,7 +7,6 @@ use Rattle.frame_body.specs.Counts.{set_count}
 use Rattle.frame_body.specs.Writing.{sets_count}
 use Rattle.frame_body.proofs.Counting.{sum-turn}
 use native.Mathlib.Omega.{arith}
-use borrow.Author.Rules.{rules}
 use Rattle.frame_body.proofs.count.count_sets.Goals as goal
 
 pub loop-c-init : goal.loop-c-init

@@ -1,15 +1,9 @@
 -- After c channels their sets are counted.
-use mathlib.Core.Path.{◌≡◌, refl, ap₂, ◌∙◌}
+use mathlib.Core.Path.{◌≡◌}
 use Prim.Native.Nat.{◌-◌, ◌*◌, ◌≤◌}
-use Rattle.sheet.specs.Settings.{channels, end_at, set_at}
+use Rattle.sheet.specs.Settings.{end_at, set_at}
 use Rattle.mantissas.specs.Formula.{sum}
-use Rattle.frame.specs.Under.{channel-known, held-set, held-known}
-use Rattle.frame_rows.specs.RowsLaws.{channel-there}
 use Rattle.frame_body.specs.Counts.{set_count}
-use Rattle.frame_body.specs.Writing.{sets_count}
-use Rattle.frame_body.proofs.Counting.{sum-turn}
-use native.Mathlib.Omega.{arith}
-use borrow.Author.Rules.{rules}
 use Rattle.frame_body.proofs.count.count_sets.Given as goal
 
 abbrev pub invariant-loop-c : goal.invariant-loop-c

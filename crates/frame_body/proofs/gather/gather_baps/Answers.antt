@@ -1,10 +1,6 @@
 use mathlib.Core.Path.{◌≡◌, sym, ◌∙◌}
-use Prim.Native.Nat.{◌-◌, ◌*◌, ◌≤◌}
-use lib.ListN.{length, take}
-use Rattle.bits.specs.Parts.{joined}
 use Rattle.sheet.specs.Settings.{channels}
-use Rattle.sheet.specs.Sizes.{most_row}
-use Rattle.frame_body.specs.Writing.{lows, below_ends}
+use Rattle.frame_body.specs.Writing.{below_ends}
 use Rattle.frame_body.proofs.Below.{gather-start, low-lengths, gather-length, gather-turn}
 use native.Mathlib.Omega.{arith}
 use borrow.Author.Rules.{rules}

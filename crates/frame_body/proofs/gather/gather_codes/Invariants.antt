@@ -1,14 +1,10 @@
 -- After c channels the entries below their ends stand in front.
-use mathlib.Core.Path.{◌≡◌, sym, ◌∙◌}
+use mathlib.Core.Path.{◌≡◌}
 use Prim.Native.Nat.{◌-◌, ◌*◌, ◌≤◌}
 use lib.ListN.{length, take}
 use Rattle.bits.specs.Parts.{joined}
-use Rattle.sheet.specs.Settings.{channels}
 use Rattle.sheet.specs.Sizes.{most_row}
-use Rattle.frame_body.specs.Writing.{lows, below_ends}
-use Rattle.frame_body.proofs.Below.{gather-start, low-lengths, gather-length, gather-turn}
-use native.Mathlib.Omega.{arith}
-use borrow.Author.Rules.{rules}
+use Rattle.frame_body.specs.Writing.{lows}
 use Rattle.frame_body.proofs.gather.gather_codes.Given as goal
 
 abbrev pub invariant-loop-c : goal.invariant-loop-c

@@ -1,7 +1,6 @@
 -- The entries below each end are copied, and their stream is appended.
 use Rattle.frame_body.proofs.Below.{row_room, row-whole, front-inside, front-is}
 use native.Mathlib.Omega.{arith}
-use borrow.Author.Rules.{rules}
 use Rattle.frame_body.proofs.write.put_bins.Goals as goal
 
 pub slice_bounds-low_bap-end : goal.slice_bounds-low_bap-end

@@ -3,7 +3,6 @@ use mathlib.Core.Path.{sym}
 use Rattle.bits.specs.WriteLaws.{and_then, room-first, room-second}
 use Rattle.frame.specs.Body.{sets_bits, mantissa_bits, block_bits}
 use Rattle.frame_body.proofs.Blocks.{rows_long, low-coded, low-stream}
-use borrow.Author.Rules.{rules}
 use Rattle.frame_body.proofs.write.put_block.Goals as goal
 
 pub put_sets-sets-requires : goal.put_sets-sets-requires

@@ -1,10 +1,7 @@
 use mathlib.Core.Path.{◌≡◌, refl, ◌∙◌}
 use mathlib.Core.Bool.{Bool}
 use mathlib.Core.List.{List}
-use Prim.Native.Nat.{ℕ, ◌-◌, ◌≤◌, ◌<◌}
-use lib.ListN.{length}
-use Rattle.bits.specs.Parts.{joined}
-use Rattle.bits.specs.Write.{Put}
+use Prim.Native.Nat.{ℕ, ◌<◌}
 use Rattle.bits.specs.WriteLaws.{turn-start, turn-ready, turn-put}
 use Rattle.frame.specs.Layout.{row_of}
 use Rattle.frame.specs.Body.{block_bits, body_bits}
@@ -12,7 +9,6 @@ use Rattle.frame.specs.LayoutLaws.{length-row}
 use Rattle.frame_rows.specs.RowsLaws.{row-lent, row_inside}
 use Rattle.frame_body.proofs.Blocks.{legal-sets, row-clean, row-bap, row-codes}
 use native.Mathlib.Omega.{arith}
-use borrow.Author.Rules.{rules}
 use Rattle.frame_body.proofs.write.put_body.Goals as goal
 
 pub overflow_mul-z : goal.overflow_mul-z

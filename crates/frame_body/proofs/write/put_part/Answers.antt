@@ -2,7 +2,6 @@
 use mathlib.Core.Path.{sym, ap, ◌∙◌}
 use Rattle.sheet.specs.declared.record.ExponentSet.TheVariants.{New}
 use Rattle.frame_body.proofs.Sets.{put-none, set-asked, put-new}
-use borrow.Author.Rules.{rules}
 use Rattle.frame_body.proofs.write.put_part.Goals as goal
 
 pub put_exponents-requires : goal.put_exponents-requires

@@ -1,19 +1,11 @@
 -- After c channels the bits of their sets are appended.
-use mathlib.Core.Path.{◌≡◌, refl, ◌∙◌}
-use mathlib.Core.Bool.{Bool}
-use mathlib.Core.List.{List}
-use Prim.Native.Nat.{ℕ, ◌-◌, ◌≤◌}
+use mathlib.Core.Path.{◌≡◌}
+use Prim.Native.Nat.{◌-◌, ◌≤◌}
 use lib.ListN.{length}
-use Rattle.sheet.specs.Settings.{channels, end_at, set_at}
+use Rattle.sheet.specs.Settings.{end_at, set_at}
 use Rattle.bits.specs.Parts.{joined, piece}
 use Rattle.bits.specs.Write.{Put}
-use Rattle.bits.specs.WriteLaws.{turn-start, turn-ready, turn-put}
-use Rattle.frame.specs.Body.{set_bits, sets_bits}
-use Rattle.frame.specs.Under.{channel-known, held-set, held-known}
-use Rattle.frame_rows.specs.RowsLaws.{channel-there, row-held}
-use Rattle.bits.specs.Walks.{lent_is, lent-long}
-use native.Mathlib.Omega.{arith}
-use borrow.Author.Rules.{rules}
+use Rattle.frame.specs.Body.{set_bits}
 use Rattle.frame_body.proofs.write.put_sets.Given as goal
 
 abbrev pub invariant-loop-c : goal.invariant-loop-c

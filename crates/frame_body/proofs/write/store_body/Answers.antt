@@ -3,7 +3,6 @@ use mathlib.Core.Path.{◌≡◌, refl}
 use Rattle.bits.specs.Write.{place}
 use Rattle.bits.specs.WriteLaws.{step-stored}
 use native.Mathlib.Omega.{arith}
-use borrow.Author.Rules.{rules}
 use Rattle.frame_body.proofs.write.store_body.Goals as goal
 
 pub put_body-w-requires : goal.put_body-w-requires

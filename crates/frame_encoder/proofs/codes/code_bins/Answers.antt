@@ -1,11 +1,9 @@
-use Prim.Native.Nat.{◌-◌, ◌≤◌, ◌<◌}
-use mathlib.Core.List.{◌++◌}
-use mathlib.Core.Path.{◌≡◌, refl}
+use Prim.Native.Nat.{◌<◌}
+use mathlib.Core.Path.{refl}
 use native.Mathlib.Omega.{arith}
-use lib.ListN.{length, take, drop, length-set}
+use lib.ListN.{length, length-set}
 use borrow.Author.Rules.{rules}
 use Rattle.frame_runs.specs.FiniteLaws.{finite-at}
-use Rattle.frame_encoder.specs.Codes.{codes_for}
 use Rattle.frame_encoder.proofs.Coding.{code-more, code-end}
 use Rattle.frame_encoder.proofs.codes.code_bins.Goals as goal
 

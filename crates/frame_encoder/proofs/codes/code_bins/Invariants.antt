@@ -1,13 +1,9 @@
 -- The codes so far, then those of the bins that are left.
-use Prim.Native.Nat.{◌-◌, ◌≤◌, ◌<◌}
+use Prim.Native.Nat.{◌-◌, ◌≤◌}
 use mathlib.Core.List.{◌++◌}
-use mathlib.Core.Path.{◌≡◌, refl}
-use native.Mathlib.Omega.{arith}
-use lib.ListN.{length, take, drop, length-set}
-use borrow.Author.Rules.{rules}
-use Rattle.frame_runs.specs.FiniteLaws.{finite-at}
+use mathlib.Core.Path.{◌≡◌}
+use lib.ListN.{length, take, drop}
 use Rattle.frame_encoder.specs.Codes.{codes_for}
-use Rattle.frame_encoder.proofs.Coding.{code-more, code-end}
 use Rattle.frame_encoder.proofs.codes.code_bins.Given as goal
 
 abbrev pub invariant-loop-i : goal.invariant-loop-i

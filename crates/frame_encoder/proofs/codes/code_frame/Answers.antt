@@ -1,15 +1,11 @@
-use Prim.Native.Nat.{◌-◌, ◌*◌, ◌≤◌}
-use mathlib.Core.Path.{◌≡◌, refl, ◌∙◌}
+use Prim.Native.Nat.{◌*◌}
+use mathlib.Core.Path.{refl, ◌∙◌}
 use native.Mathlib.Omega.{arith}
-use lib.ListN.{length, take}
-use borrow.Author.Rules.{rules}
-use Rattle.bits.specs.Parts.{joined}
 use Rattle.bits.specs.PartsLaws.{fill_start, fill_end}
-use Rattle.sheet.specs.Settings.{channels}
 use Rattle.frame_rows.specs.RowsLaws.{row-long, row_inside, buffer_held}
 use Rattle.bits.specs.Walks.{turn-length, turn_more}
 use Rattle.frame.specs.Layout.{framed}
-use Rattle.frame_encoder.specs.Codes.{code_part, codes_at}
+use Rattle.frame_encoder.specs.Codes.{codes_at}
 use Rattle.frame_encoder.proofs.codes.code_frame.Goals as goal
 
 pub overflow_mul-z : goal.overflow_mul-z

@@ -1,16 +1,10 @@
 -- The rows before block b hold their codes.
 use Prim.Native.Nat.{◌-◌, ◌*◌, ◌≤◌}
-use mathlib.Core.Path.{◌≡◌, refl, ◌∙◌}
-use native.Mathlib.Omega.{arith}
+use mathlib.Core.Path.{◌≡◌}
 use lib.ListN.{length, take}
-use borrow.Author.Rules.{rules}
 use Rattle.bits.specs.Parts.{joined}
-use Rattle.bits.specs.PartsLaws.{fill_start, fill_end}
 use Rattle.sheet.specs.Settings.{channels}
-use Rattle.frame_rows.specs.RowsLaws.{row-long, row_inside, buffer_held}
-use Rattle.bits.specs.Walks.{turn-length, turn_more}
-use Rattle.frame.specs.Layout.{framed}
-use Rattle.frame_encoder.specs.Codes.{code_part, codes_at}
+use Rattle.frame_encoder.specs.Codes.{code_part}
 use Rattle.frame_encoder.proofs.codes.code_frame.Given as goal
 
 abbrev pub invariant-loop-b : goal.invariant-loop-b

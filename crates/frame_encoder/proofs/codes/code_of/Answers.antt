@@ -1,7 +1,6 @@
 -- A code has at most 65,536 values, so it fits.
 use Prim.Native.Nat.{◌<◌}
 use native.Mathlib.Omega.{arith}
-use borrow.Author.Rules.{rules}
 use Rattle.frame_encoder.specs.CodesLaws.{code_fits}
 use Rattle.frame_encoder.proofs.codes.code_of.Goals as goal
 

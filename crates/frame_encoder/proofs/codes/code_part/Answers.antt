@@ -4,7 +4,6 @@ use mathlib.Core.List.{List, ◌++◌}
 use mathlib.Core.Path.{◌≡◌, sym, ap, ◌∙◌}
 use native.Mathlib.Omega.{arith}
 use lib.ListN.{length, take, replicate, length-take}
-use borrow.Author.Rules.{rules}
 use Rattle.frame_rows.specs.TwoPartsLaws.{front_long, two-parts-long, two-parts}
 use Rattle.frame_encoder.proofs.codes.code_part.Goals as goal
 use Rattle.frame_encoder.proofs.codes.code_part.Goals.{Start}

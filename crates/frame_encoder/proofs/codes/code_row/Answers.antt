@@ -1,15 +1,12 @@
-use Prim.Native.Nat.{◌+◌, ◌-◌, ◌*◌, ◌≤◌}
-use mathlib.Core.Path.{◌≡◌, refl, ap, ◌∙◌}
+use Prim.Native.Nat.{◌+◌, ◌-◌, ◌≤◌}
+use mathlib.Core.Path.{refl, ap, ◌∙◌}
 use native.Mathlib.Omega.{arith}
 use lib.ListN.{length, take, drop}
-use borrow.Author.Rules.{rules}
-use Rattle.bits.specs.Parts.{joined}
 use Rattle.bits.specs.PartsLaws.{fill_start, fill_end}
 use Rattle.sheet.specs.Settings.{channels}
 use Rattle.frame_rows.specs.RowsLaws.{channel-there, row-held, length-baps}
 use Rattle.bits.specs.Walks.{lent-long, turn-length, turn_more}
 use Rattle.frame_runs.specs.RunsLaws.{below-fits, below-lent, whole_below}
-use Rattle.frame_encoder.specs.Codes.{code_part}
 use Rattle.frame_encoder.specs.CodesLaws.{codable-part, part-is}
 use Rattle.frame_encoder.proofs.codes.code_row.Goals as goal
 

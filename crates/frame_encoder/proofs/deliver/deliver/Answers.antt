@@ -5,7 +5,6 @@ use mathlib.Core.List.{List}
 use mathlib.Core.Path.{◌≡◌, refl, sym, ap, ap₂, ◌∙◌}
 use native.Mathlib.Omega.{arith}
 use lib.ListN.{length}
-use borrow.Author.Rules.{rules}
 use Rattle.bits.specs.Bytes.{bytes_for}
 use Rattle.bits.specs.Refusal as refusal
 use Rattle.sheet.specs.LegalSettings.{LegalSettings}

@@ -1,5 +1,4 @@
 -- Each of the four lengths is compared with the one of the settings.
-use borrow.Author.Rules.{rules}
 use Rattle.frame_encoder.proofs.encode.all_fit.Goals as goal
 
 pub returns : goal.returns

@@ -5,7 +5,6 @@ use mathlib.Core.List.{List, ◌++◌}
 use mathlib.Core.Path.{◌≡◌, ap, ◌∙◌}
 use native.Mathlib.Omega.{arith}
 use lib.ListN.{length, take, drop}
-use borrow.Author.Rules.{rules}
 use Rattle.sheet.specs.LegalSettings.{ChannelCount}
 use Rattle.sheet.specs.Settings.{channels}
 use Rattle.sheet.specs.declared.settings.Settings.{Settings}

@@ -1,9 +1,8 @@
 -- One way out for each cause, in the order of the table.
 use mathlib.Core.Path.{◌≡◌, sym, ap, ◌∙◌}
 use native.Mathlib.Omega.{arith}
-use borrow.Author.Rules.{rules}
 use Rattle.bits.specs.Refusal as refusal
-use Rattle.bits.specs.Tests.{held_false, held_true, passed, failed}
+use Rattle.bits.specs.Tests.{held_false, held_true}
 use Rattle.sheet.proofs.SettingsLaws.{settings-legal}
 use Rattle.frame.specs.Answers.{refused}
 use Rattle.frame.specs.AnswersLaws.{body_refused}

@@ -1,6 +1,5 @@
 -- The exponents are legal, so they are allocated; so their codes can be worked out.
 use mathlib.Core.Path.{◌∙◌}
-use borrow.Author.Rules.{rules}
 use Rattle.frame_runs.specs.RunsLegal.{exps_of-legal}
 use Rattle.frame_encoder.specs.Codes.{codes_of}
 use Rattle.frame_encoder.proofs.encode.make_frame.Goals as goal

@@ -2,7 +2,6 @@
 use mathlib.Core.Path.{sym, ap, ◌∙◌}
 use lib.ListN.{length}
 use native.Mathlib.Omega.{arith}
-use borrow.Author.Rules.{rules}
 use Rattle.bits.specs.FieldLaws.{length-bits_of}
 use Rattle.sheet.proofs.SettingsLaws.{channels-bounds}
 use Rattle.frame.specs.LayoutLaws.{length-bap_row}

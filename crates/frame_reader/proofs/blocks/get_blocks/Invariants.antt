@@ -1,15 +1,7 @@
 -- Block by block: the rows that it leaves are copied into its parts of the buffers, and its counts stored.
-use Prim.Native.Nat.{ℕ, ◌+◌, ◌-◌, ◌*◌, ◌≤◌}
-use mathlib.Core.Path.{◌≡◌, refl, sym, ap, ◌∙◌}
-use native.Mathlib.Omega.{arith}
-use borrow.Author.Rules.{rules}
-use lib.ListN.{length, length-replicate}
+use Prim.Native.Nat.{◌-◌, ◌≤◌}
 use Rattle.bits.specs.Field.{bits_of}
-use Rattle.bits.specs.FieldLaws.{length-bits_of}
-use Rattle.sheet.specs.Settings.{channels}
-use Rattle.frame_rows.specs.RowsLaws.{row_inside, buffer_held, row-long}
-use Rattle.bits.specs.Walks.{turn-length}
-use Rattle.frame_reader.proofs.SixBlocks.{BlocksRead, blocks_start, frame-fault, blocks_more, frame-good}
+use Rattle.frame_reader.proofs.SixBlocks.{BlocksRead}
 use Rattle.frame_reader.proofs.blocks.get_blocks.Given as goal
 
 abbrev pub invariant-loop-b : goal.invariant-loop-b

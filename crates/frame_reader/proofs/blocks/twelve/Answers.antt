@@ -5,7 +5,6 @@ use mathlib.Core.List.{List, ◌++◌}
 use native.Mathlib.Omega.{arith}
 use lib.ListN.{length, get_or}
 use lib.Seq.{take_all}
-use borrow.Author.Rules.{rules}
 use Rattle.bits.specs.Parts.{joined, tab}
 use Rattle.bits.specs.PartsLaws.{tab-list}
 use Rattle.sheet.specs.Record.{six_of}

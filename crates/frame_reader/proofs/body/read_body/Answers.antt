@@ -1,7 +1,6 @@
 -- Each way out in the order of the refusals, then the reading: laws of Answers.antt.
 use mathlib.Core.Path.{sym, ap, ◌∙◌}
 use native.Mathlib.Omega.{arith}
-use borrow.Author.Rules.{rules}
 use Rattle.bits.specs.Field.{bits_of}
 use Rattle.frame.specs.Answers.{refused}
 use Rattle.frame_reader.proofs.Answers.{held-legal, held-size, refused-sheet, refused-exps, refused-bap, refused-codes, all_read}

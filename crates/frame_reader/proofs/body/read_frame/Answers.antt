@@ -1,7 +1,6 @@
 -- What was read stands in the buffers, or a fault was met and they are filled with 0.
 use Prim.Native.Nat.{ℕ}
 use mathlib.Core.Path.{ap, ◌∙◌}
-use borrow.Author.Rules.{rules}
 use lib.ListN.{length, replicate}
 use Rattle.bits.specs.Field.{bits_of}
 use Rattle.frame.specs.Reader.{read_frame}

@@ -1,7 +1,6 @@
 -- A reuse leaves the part; a new set is read into it, with 0 from end on.
 use mathlib.Core.Path.{refl, sym, ap, ◌∙◌}
 use native.Mathlib.Omega.{arith}
-use borrow.Author.Rules.{rules}
 use Rattle.bits.specs.FieldLaws.{length-bits_of}
 use Rattle.sheet.specs.declared.record.ExponentSet.TheVariants.{New}
 use Rattle.frame_reader.proofs.OnePart.{part_left, part-came}

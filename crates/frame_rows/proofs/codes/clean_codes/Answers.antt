@@ -1,11 +1,9 @@
-use mathlib.Core.Path.{◌≡◌, refl, ap, ◌∙◌}
-use Prim.Native.Nat.{◌*◌, ◌-◌, ◌≤◌}
+use mathlib.Core.Path.{refl, ap, ◌∙◌}
+use Prim.Native.Nat.{◌*◌}
 use native.Mathlib.Omega.{arith}
-use lib.ListN.{length, take}
 use borrow.Author.Rules.{rules}
-use Rattle.bits.specs.Parts.{joined}
 use Rattle.bits.specs.PartsLaws.{fill_start, fill_end}
-use Rattle.frame.specs.Layout.{row_of, clean_row, cleaned}
+use Rattle.frame.specs.Layout.{clean_row, cleaned}
 use Rattle.frame_rows.specs.RowsLaws.{row-long, row-lent, row_inside, buffer_held}
 use Rattle.bits.specs.Walks.{turn-length, turn_more}
 use Rattle.frame_rows.proofs.codes.clean_codes.Goals as goal

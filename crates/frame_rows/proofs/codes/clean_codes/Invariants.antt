@@ -1,14 +1,9 @@
 -- The rows before block b are clean.
-use mathlib.Core.Path.{◌≡◌, refl, ap, ◌∙◌}
+use mathlib.Core.Path.{◌≡◌}
 use Prim.Native.Nat.{◌*◌, ◌-◌, ◌≤◌}
-use native.Mathlib.Omega.{arith}
 use lib.ListN.{length, take}
-use borrow.Author.Rules.{rules}
 use Rattle.bits.specs.Parts.{joined}
-use Rattle.bits.specs.PartsLaws.{fill_start, fill_end}
-use Rattle.frame.specs.Layout.{row_of, clean_row, cleaned}
-use Rattle.frame_rows.specs.RowsLaws.{row-long, row-lent, row_inside, buffer_held}
-use Rattle.bits.specs.Walks.{turn-length, turn_more}
+use Rattle.frame.specs.Layout.{row_of, clean_row}
 use Rattle.frame_rows.proofs.codes.clean_codes.Given as goal
 
 abbrev pub invariant-loop-b : goal.invariant-loop-b

@@ -1,5 +1,4 @@
 -- What stands below end is copied, and the rest is filled with 0.
-use borrow.Author.Rules.{rules}
 use Rattle.frame_rows.specs.RowsLaws.{clean-made}
 use Rattle.frame_rows.proofs.codes.clean_part.Goals as goal
 

@@ -1,13 +1,9 @@
-use mathlib.Core.Path.{◌≡◌, refl, ◌∙◌}
+use mathlib.Core.Path.{refl, ◌∙◌}
 use mathlib.Core.List.{[]}
-use Prim.Native.Nat.{◌*◌, ◌-◌, ◌≤◌}
 use native.Mathlib.Omega.{arith}
-use lib.ListN.{length, take}
 use borrow.Author.Rules.{rules}
-use Rattle.sheet.specs.Settings.{end_at}
-use Rattle.bits.specs.Parts.{joined, piece}
 use Rattle.bits.specs.PartsLaws.{fill_start, fill_end}
-use Rattle.frame.specs.Layout.{clean, clean_row}
+use Rattle.frame.specs.Layout.{clean_row}
 use Rattle.frame_rows.specs.RowsLaws.{row-held}
 use Rattle.bits.specs.Walks.{lent_is, lent-long, turn-length, turn_more}
 use Rattle.frame_rows.proofs.codes.clean_row.Goals as goal

@@ -1,16 +1,10 @@
 -- The parts before channel c are clean.
-use mathlib.Core.Path.{◌≡◌, refl, ◌∙◌}
-use mathlib.Core.List.{[]}
+use mathlib.Core.Path.{◌≡◌}
 use Prim.Native.Nat.{◌*◌, ◌-◌, ◌≤◌}
-use native.Mathlib.Omega.{arith}
 use lib.ListN.{length, take}
-use borrow.Author.Rules.{rules}
 use Rattle.sheet.specs.Settings.{end_at}
 use Rattle.bits.specs.Parts.{joined, piece}
-use Rattle.bits.specs.PartsLaws.{fill_start, fill_end}
-use Rattle.frame.specs.Layout.{clean, clean_row}
-use Rattle.frame_rows.specs.RowsLaws.{row-held}
-use Rattle.bits.specs.Walks.{lent_is, lent-long, turn-length, turn_more}
+use Rattle.frame.specs.Layout.{clean}
 use Rattle.frame_rows.proofs.codes.clean_row.Given as goal
 
 abbrev pub invariant-loop-c : goal.invariant-loop-c

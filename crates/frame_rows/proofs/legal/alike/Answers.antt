@@ -1,9 +1,5 @@
-use mathlib.Core.Path.{◌≡◌, ◌∙◌}
-use Prim.Native.Nat.{◌-◌, ◌≤◌}
+use mathlib.Core.Path.{◌∙◌}
 use native.Mathlib.Omega.{arith}
-use lib.ListN.{length}
-use Rattle.frame.specs.Legal.{alike}
-use Rattle.frame_rows.specs.Tests.{alike_from}
 use Rattle.frame_rows.specs.TestsLaws.{alike-start, alike_next, alike-differs, alike_end}
 use Rattle.frame_rows.proofs.legal.alike.Goals as goal
 

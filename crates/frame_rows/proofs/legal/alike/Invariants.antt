@@ -1,11 +1,9 @@
 -- What is left of the slices decides.
-use mathlib.Core.Path.{◌≡◌, ◌∙◌}
+use mathlib.Core.Path.{◌≡◌}
 use Prim.Native.Nat.{◌-◌, ◌≤◌}
-use native.Mathlib.Omega.{arith}
 use lib.ListN.{length}
 use Rattle.frame.specs.Legal.{alike}
 use Rattle.frame_rows.specs.Tests.{alike_from}
-use Rattle.frame_rows.specs.TestsLaws.{alike-start, alike_next, alike-differs, alike_end}
 use Rattle.frame_rows.proofs.legal.alike.Given as goal
 
 abbrev pub invariant-loop-i : goal.invariant-loop-i

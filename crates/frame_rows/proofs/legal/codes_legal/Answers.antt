@@ -1,12 +1,8 @@
 use mathlib.Core.Path.{◌≡◌, refl, sym, ap₂, ◌∙◌}
 use mathlib.Core.Bool.{Bool, ◌&&◌}
-use Prim.Native.Nat.{◌*◌, ◌-◌, ◌≤◌}
+use Prim.Native.Nat.{◌*◌}
 use native.Mathlib.Numerals.{add-one}
 use native.Mathlib.Omega.{arith}
-use borrow.Author.Rules.{rules}
-use Rattle.mantissas.specs.Stream.{coded}
-use Rattle.sheet.specs.Ranges.{all_below}
-use Rattle.bits.specs.Parts.{piece}
 use Rattle.frame.specs.Layout.{row_of}
 use Rattle.frame_rows.specs.RowsLaws.{row_inside, buffer_held}
 use Rattle.bits.specs.Walks.{lent_is, lent-long}

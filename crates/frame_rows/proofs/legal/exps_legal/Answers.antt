@@ -1,13 +1,9 @@
 use mathlib.Core.Path.{◌≡◌, refl, ap₂, ◌∙◌}
 use mathlib.Core.Bool.{Bool, ◌&&◌}
-use Prim.Native.Nat.{◌-◌, ◌≤◌, ◌<◌}
+use Prim.Native.Nat.{◌<◌}
 use native.Mathlib.Numerals.{add-one}
 use native.Mathlib.Omega.{arith}
-use borrow.Author.Rules.{rules}
-use Rattle.sheet.specs.Ranges.{all_below}
-use Rattle.frame.specs.Layout.{row_of}
-use Rattle.frame.specs.Legal.{row_legal, exps_legal}
-use Rattle.frame.specs.Reader.{earlier}
+use Rattle.frame.specs.Legal.{exps_legal}
 use Rattle.frame_rows.specs.RowsLaws.{row-long, row-lent, row_inside}
 use Rattle.frame_rows.specs.TestsLaws.{row-after}
 use Rattle.frame_rows.proofs.legal.exps_legal.Goals as goal

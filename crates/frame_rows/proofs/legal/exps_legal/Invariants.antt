@@ -1,16 +1,10 @@
 -- The blocks before b are legal; of the block before, what stands below each end decides.
-use mathlib.Core.Path.{◌≡◌, refl, ap₂, ◌∙◌}
-use mathlib.Core.Bool.{Bool, ◌&&◌}
-use Prim.Native.Nat.{◌-◌, ◌≤◌, ◌<◌}
-use native.Mathlib.Numerals.{add-one}
-use native.Mathlib.Omega.{arith}
-use borrow.Author.Rules.{rules}
+use mathlib.Core.Path.{◌≡◌}
+use Prim.Native.Nat.{◌-◌, ◌≤◌}
 use Rattle.sheet.specs.Ranges.{all_below}
 use Rattle.frame.specs.Layout.{row_of}
-use Rattle.frame.specs.Legal.{row_legal, exps_legal}
+use Rattle.frame.specs.Legal.{row_legal}
 use Rattle.frame.specs.Reader.{earlier}
-use Rattle.frame_rows.specs.RowsLaws.{row-long, row-lent, row_inside}
-use Rattle.frame_rows.specs.TestsLaws.{row-after}
 use Rattle.frame_rows.proofs.legal.exps_legal.Given as goal
 
 abbrev pub invariant-loop-b : goal.invariant-loop-b

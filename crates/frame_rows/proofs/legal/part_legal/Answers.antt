@@ -3,7 +3,6 @@ use mathlib.Core.Path.{sym, ap, ◌∙◌}
 use native.Mathlib.Nat.{sub-zero}
 use native.Mathlib.Omega.{arith}
 use lib.ListN.{length-take}
-use borrow.Author.Rules.{rules}
 use Rattle.sheet.specs.declared.record.ExponentSet.TheVariants.{New}
 use Rattle.frame_rows.specs.TestsLaws.{part-reuse, part-new, span-least}
 use Rattle.frame_rows.proofs.legal.part_legal.Goals as goal

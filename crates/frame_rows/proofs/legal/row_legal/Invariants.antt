@@ -1,17 +1,10 @@
 -- The parts before channel c are legal.
-use mathlib.Core.Path.{◌≡◌, refl, ap₂, ◌∙◌}
-use mathlib.Core.Bool.{Bool, ◌&&◌}
+use mathlib.Core.Path.{◌≡◌}
 use Prim.Native.Nat.{◌-◌, ◌≤◌}
-use native.Mathlib.Numerals.{add-one}
-use native.Mathlib.Omega.{arith}
-use borrow.Author.Rules.{rules}
-use Rattle.sheet.specs.Settings.{channels, end_at, set_at}
+use Rattle.sheet.specs.Settings.{end_at, set_at}
 use Rattle.bits.specs.Parts.{piece}
 use Rattle.sheet.specs.Ranges.{all_below}
-use Rattle.frame.specs.Legal.{part_legal, row_legal}
-use Rattle.frame.specs.Under.{held-set, held-known}
-use Rattle.frame_rows.specs.RowsLaws.{row-held}
-use Rattle.bits.specs.Walks.{lent_is, lent-long}
+use Rattle.frame.specs.Legal.{part_legal}
 use Rattle.frame_rows.proofs.legal.row_legal.Given as goal
 
 abbrev pub invariant-loop-c : goal.invariant-loop-c

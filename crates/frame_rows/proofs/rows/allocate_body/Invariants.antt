@@ -1,21 +1,12 @@
 -- The rows before block b are allocated, and `row` holds what a reuse channel of block b keeps.
-use mathlib.Core.Path.{◌≡◌, refl, sym, ap, ◌∙◌}
-use mathlib.Core.List.{◌++◌}
-use Prim.Native.Nat.{ℕ, ◌*◌, ◌-◌, ◌≤◌, ◌<◌}
-use native.Mathlib.Numerals.{add-one}
-use native.Mathlib.Nat.{sub-zero}
-use native.Mathlib.Omega.{arith}
-use lib.ListN.{length, take, drop, length-take}
-use borrow.Author.Rules.{rules}
+use mathlib.Core.Path.{◌≡◌}
+use Prim.Native.Nat.{◌*◌, ◌-◌, ◌≤◌, ◌<◌}
+use lib.ListN.{length, take}
 use Rattle.bits.specs.Parts.{joined}
-use Rattle.bits.specs.PartsLaws.{fill_start, fill_end}
 use Rattle.sheet.specs.Sizes.{most_row}
-use Rattle.frame.specs.Body.{bap_row, baps_of}
+use Rattle.frame.specs.Body.{bap_row}
 use Rattle.frame.specs.Layout.{row_of}
-use Rattle.frame_rows.specs.LegalLaws.{legal-low, kept-first, kept_next}
 use Rattle.frame_rows.specs.Inner.{KeptBap}
-use Rattle.frame_rows.specs.RowsLaws.{row-long, length-no_row, back-length, back_whole, back-taken, row-lent, row_inside, buffer_held}
-use Rattle.bits.specs.Walks.{lent-long, turn-length, turn_more}
 use Rattle.frame_rows.proofs.rows.allocate_body.Given as goal
 
 abbrev pub invariant-loop-b : goal.invariant-loop-b

@@ -1,6 +1,5 @@
 -- A part that is kept is the allocation already; any other is worked out.
 use native.Mathlib.Omega.{arith}
-use borrow.Author.Rules.{rules}
 use Rattle.frame.specs.Body.{bap_part}
 use Rattle.frame.specs.Under.{channel-known}
 use Rattle.sheet.proofs.SettingsLaws.{channels-bounds}

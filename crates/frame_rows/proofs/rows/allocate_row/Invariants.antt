@@ -1,16 +1,9 @@
 -- The parts before channel c are allocated; the others are still as they were.
-use mathlib.Core.Path.{◌≡◌, refl, sym, ap, ◌∙◌}
-use mathlib.Core.List.{[]}
+use mathlib.Core.Path.{◌≡◌}
 use Prim.Native.Nat.{◌*◌, ◌-◌, ◌≤◌}
-use native.Mathlib.Omega.{arith}
 use lib.ListN.{length, take, drop}
-use borrow.Author.Rules.{rules}
 use Rattle.bits.specs.Parts.{joined, piece}
-use Rattle.bits.specs.PartsLaws.{fill_start, fill_end}
-use Rattle.frame.specs.Body.{bap_part, bap_row}
-use Rattle.frame.specs.Under.{held-set}
-use Rattle.frame_rows.specs.RowsLaws.{channel-there, row-held}
-use Rattle.bits.specs.Walks.{lent_is, lent-long, lent-old, turn-length, turn_more, turn-rest}
+use Rattle.frame.specs.Body.{bap_part}
 use Rattle.frame_rows.proofs.rows.allocate_row.Given as goal
 
 abbrev pub invariant-loop-c : goal.invariant-loop-c

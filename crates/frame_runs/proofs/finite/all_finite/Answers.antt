@@ -1,8 +1,5 @@
-use Prim.Native.Nat.{◌-◌, ◌≤◌}
-use mathlib.Core.Path.{◌≡◌, refl}
+use mathlib.Core.Path.{refl}
 use native.Mathlib.Omega.{arith}
-use borrow.Author.Rules.{rules}
-use Rattle.sheet.specs.Ranges.{all_below}
 use Rattle.frame_runs.specs.Finite.{finite_row, all_finite}
 use Rattle.frame_runs.proofs.Tests.{all_more, all_end}
 use Rattle.frame_runs.proofs.finite.all_finite.Goals as goal

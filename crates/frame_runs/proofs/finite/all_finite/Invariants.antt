@@ -1,11 +1,8 @@
 -- After b blocks: whether their coefficients are finite.
 use Prim.Native.Nat.{◌-◌, ◌≤◌}
-use mathlib.Core.Path.{◌≡◌, refl}
-use native.Mathlib.Omega.{arith}
-use borrow.Author.Rules.{rules}
+use mathlib.Core.Path.{◌≡◌}
 use Rattle.sheet.specs.Ranges.{all_below}
-use Rattle.frame_runs.specs.Finite.{finite_row, all_finite}
-use Rattle.frame_runs.proofs.Tests.{all_more, all_end}
+use Rattle.frame_runs.specs.Finite.{finite_row}
 use Rattle.frame_runs.proofs.finite.all_finite.Given as goal
 
 abbrev pub invariant-loop-b : goal.invariant-loop-b

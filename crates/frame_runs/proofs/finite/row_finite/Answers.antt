@@ -1,9 +1,6 @@
-use Prim.Native.Nat.{◌-◌, ◌≤◌}
-use mathlib.Core.Path.{◌≡◌, refl, ap, ◌∙◌}
+use mathlib.Core.Path.{refl, ap, ◌∙◌}
 use native.Mathlib.Omega.{arith}
-use borrow.Author.Rules.{rules}
 use Rattle.sheet.specs.Settings.{channels}
-use Rattle.sheet.specs.Ranges.{all_below}
 use Rattle.frame_runs.specs.Finite.{finite_part, finite_row}
 use Rattle.frame.specs.Layout.{below_end}
 use Rattle.frame_runs.specs.RunsLaws.{below-fits, below-lent}

@@ -1,14 +1,9 @@
 -- After c channels: whether their coefficients are finite.
 use Prim.Native.Nat.{◌-◌, ◌≤◌}
-use mathlib.Core.Path.{◌≡◌, refl, ap, ◌∙◌}
-use native.Mathlib.Omega.{arith}
-use borrow.Author.Rules.{rules}
-use Rattle.sheet.specs.Settings.{channels}
+use mathlib.Core.Path.{◌≡◌}
 use Rattle.sheet.specs.Ranges.{all_below}
-use Rattle.frame_runs.specs.Finite.{finite_part, finite_row}
+use Rattle.frame_runs.specs.Finite.{finite_part}
 use Rattle.frame.specs.Layout.{below_end}
-use Rattle.frame_runs.specs.RunsLaws.{below-fits, below-lent}
-use Rattle.frame_runs.proofs.Tests.{all_more, all_end}
 use Rattle.frame_runs.proofs.finite.row_finite.Given as goal
 
 abbrev pub invariant-loop-c : goal.invariant-loop-c

@@ -4,7 +4,6 @@ use mathlib.Core.List.{List}
 use mathlib.Core.Path.{◌≡◌, sym, ◌∙◌}
 use native.Mathlib.Omega.{arith}
 use lib.ListN.{length, take, length-take}
-use borrow.Author.Rules.{rules}
 use Rattle.frame_runs.specs.Runs.{run_part}
 use Rattle.frame_rows.specs.TwoPartsLaws.{front_long, two-parts-long, two-parts}
 use Rattle.frame_runs.proofs.part.begin_run.Goals as goal

@@ -1,11 +1,8 @@
-use Prim.Native.Nat.{◌-◌, ◌≤◌}
-use mathlib.Core.List.{◌++◌}
-use mathlib.Core.Path.{◌≡◌, refl}
+use mathlib.Core.Path.{refl}
 use native.Mathlib.Omega.{arith}
-use lib.ListN.{length, take, drop, length-set}
+use lib.ListN.{length-set}
 use borrow.Author.Rules.{rules}
 use Rattle.frame_runs.specs.FiniteLaws.{finite-at}
-use Rattle.frame_runs.specs.Runs.{exponents_of}
 use Rattle.frame_runs.proofs.Bins.{extract-more, extract-end}
 use Rattle.frame_runs.proofs.part.extract_part.Goals as goal
 

@@ -1,13 +1,9 @@
 -- The exponents so far, then those of the coefficients that are left.
 use Prim.Native.Nat.{◌-◌, ◌≤◌}
 use mathlib.Core.List.{◌++◌}
-use mathlib.Core.Path.{◌≡◌, refl}
-use native.Mathlib.Omega.{arith}
-use lib.ListN.{length, take, drop, length-set}
-use borrow.Author.Rules.{rules}
-use Rattle.frame_runs.specs.FiniteLaws.{finite-at}
+use mathlib.Core.Path.{◌≡◌}
+use lib.ListN.{length, take, drop}
 use Rattle.frame_runs.specs.Runs.{exponents_of}
-use Rattle.frame_runs.proofs.Bins.{extract-more, extract-end}
 use Rattle.frame_runs.proofs.part.extract_part.Given as goal
 
 abbrev pub invariant-loop-i : goal.invariant-loop-i

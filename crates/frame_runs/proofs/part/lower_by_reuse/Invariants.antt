@@ -1,15 +1,8 @@
 -- The blocks that are left decide what the run becomes.
-use Prim.Native.Nat.{ℕ, ◌+◌, ◌-◌, ◌≤◌}
-use mathlib.Core.List.{List}
-use mathlib.Core.Path.{◌≡◌, refl, sym, ap, ◌∙◌}
-use native.Mathlib.Omega.{arith}
-use lib.Ieee.{Float}
+use Prim.Native.Nat.{◌-◌, ◌≤◌}
+use mathlib.Core.Path.{◌≡◌}
 use lib.ListN.{length}
-use borrow.Author.Rules.{rules}
-use Rattle.frame.specs.Under.{held-set}
-use Rattle.frame_runs.specs.FiniteLaws.{finite-below}
-use Rattle.frame_runs.specs.Runs.{least_of, exponents_of, least_from}
-use Rattle.frame_runs.specs.RunsLaws.{below-fits, below-lent, whole_below, run_on, run-stops, run_ends}
+use Rattle.frame_runs.specs.Runs.{least_from}
 use Rattle.frame_runs.proofs.part.lower_by_reuse.Given as goal
 
 abbrev pub invariant-loop-b : goal.invariant-loop-b

@@ -1,11 +1,8 @@
-use Prim.Native.Nat.{◌-◌, ◌≤◌}
-use mathlib.Core.List.{◌++◌}
-use mathlib.Core.Path.{◌≡◌, refl}
+use mathlib.Core.Path.{refl}
 use native.Mathlib.Omega.{arith}
-use lib.ListN.{length, take, drop, length-set}
+use lib.ListN.{length-set}
 use borrow.Author.Rules.{rules}
 use Rattle.frame_runs.specs.FiniteLaws.{finite-at}
-use Rattle.frame_runs.specs.Runs.{exponents_of, least_of}
 use Rattle.frame_runs.proofs.Bins.{lower-more, lower-end}
 use Rattle.frame_runs.proofs.part.lower_part.Goals as goal
 

@@ -1,13 +1,9 @@
 -- The least so far, then that of what is left.
 use Prim.Native.Nat.{◌-◌, ◌≤◌}
 use mathlib.Core.List.{◌++◌}
-use mathlib.Core.Path.{◌≡◌, refl}
-use native.Mathlib.Omega.{arith}
-use lib.ListN.{length, take, drop, length-set}
-use borrow.Author.Rules.{rules}
-use Rattle.frame_runs.specs.FiniteLaws.{finite-at}
+use mathlib.Core.Path.{◌≡◌}
+use lib.ListN.{length, take, drop}
 use Rattle.frame_runs.specs.Runs.{exponents_of, least_of}
-use Rattle.frame_runs.proofs.Bins.{lower-more, lower-end}
 use Rattle.frame_runs.proofs.part.lower_part.Given as goal
 
 abbrev pub invariant-loop-i : goal.invariant-loop-i

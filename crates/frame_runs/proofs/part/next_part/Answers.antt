@@ -1,7 +1,6 @@
 -- A reuse block leaves the part, a new set begins a run.
 use mathlib.Core.Path.{sym, ap, ◌∙◌}
 use native.Mathlib.Omega.{arith}
-use borrow.Author.Rules.{rules}
 use Rattle.frame.specs.Under.{held-set}
 use Rattle.sheet.proofs.SettingsLaws.{channels-bounds}
 use Rattle.frame_runs.specs.CarriedLaws.{part_stays, part-begins}

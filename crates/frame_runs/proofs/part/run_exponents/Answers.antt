@@ -1,5 +1,4 @@
 -- Both passes of shaping.
-use borrow.Author.Rules.{rules}
 use Rattle.frame_runs.specs.Runs.{run_exponents}
 use Rattle.frame_runs.proofs.part.run_exponents.Goals as goal
 

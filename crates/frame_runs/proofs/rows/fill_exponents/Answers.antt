@@ -4,8 +4,6 @@ use mathlib.Core.Path.{◌≡◌, refl, sym, ap, ◌∙◌}
 use native.Mathlib.Omega.{arith}
 use lib.ListN.{length, take, drop, length-take, length-append, length-drop}
 use lib.Seq.{take_at}
-use borrow.Author.Rules.{rules}
-use Rattle.bits.specs.Parts.{joined}
 use Rattle.bits.specs.PartsLaws.{within, part-long, fill_start, fill_more, fill-length, fill_end, front-taken}
 use Rattle.sheet.specs.Sizes.{most_row}
 use Rattle.frame_rows.specs.RowsLaws.{length-no_row, buffer_held}

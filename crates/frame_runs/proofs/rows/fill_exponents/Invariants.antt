@@ -1,19 +1,10 @@
 -- The rows before block b are stored, and `row` holds the last of them.
-use Prim.Native.Nat.{◌+◌, ◌-◌, ◌*◌, ◌≤◌}
-use mathlib.Core.List.{◌++◌}
-use mathlib.Core.Path.{◌≡◌, refl, sym, ap, ◌∙◌}
-use native.Mathlib.Omega.{arith}
-use lib.ListN.{length, take, drop, length-take, length-append, length-drop}
-use lib.Seq.{take_at}
-use borrow.Author.Rules.{rules}
+use Prim.Native.Nat.{◌-◌, ◌*◌, ◌≤◌}
+use mathlib.Core.Path.{◌≡◌}
+use lib.ListN.{length, take}
 use Rattle.bits.specs.Parts.{joined}
-use Rattle.bits.specs.PartsLaws.{within, part-long, fill_start, fill_more, fill-length, fill_end, front-taken}
 use Rattle.sheet.specs.Sizes.{most_row}
-use Rattle.frame_rows.specs.RowsLaws.{length-no_row, buffer_held}
 use Rattle.frame_runs.specs.Carried.{row_at, row_before}
-use Rattle.frame_runs.specs.CarriedLaws.{carried_first, carried_on}
-use Rattle.frame.specs.Layout.{framed}
-use Rattle.frame_runs.specs.Runs.{exps_of}
 use Rattle.frame_runs.proofs.rows.fill_exponents.Given as goal
 
 abbrev pub invariant-loop-b : goal.invariant-loop-b

@@ -1,14 +1,10 @@
-use Prim.Native.Nat.{◌-◌, ◌*◌, ◌≤◌}
-use mathlib.Core.Path.{◌≡◌, refl, ◌∙◌}
+use mathlib.Core.Path.{refl, ◌∙◌}
 use native.Mathlib.Omega.{arith}
-use lib.ListN.{length, take, drop}
-use borrow.Author.Rules.{rules}
 use Rattle.sheet.specs.Settings.{channels}
-use Rattle.bits.specs.Parts.{joined, piece}
 use Rattle.bits.specs.PartsLaws.{fill_start, fill_end}
 use Rattle.frame_rows.specs.RowsLaws.{channel-there, row-held}
 use Rattle.bits.specs.Walks.{lent-long, lent-old, turn-length, turn_more, turn-rest}
-use Rattle.frame_runs.specs.Carried.{next_part, next_row}
+use Rattle.frame_runs.specs.Carried.{next_row}
 use Rattle.frame_runs.proofs.rows.next_row.Goals as goal
 
 pub loop-c-init : goal.loop-c-init

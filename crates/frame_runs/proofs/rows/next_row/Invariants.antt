@@ -1,15 +1,9 @@
 -- The parts before c are those of block b, the others still those of the block before.
 use Prim.Native.Nat.{◌-◌, ◌*◌, ◌≤◌}
-use mathlib.Core.Path.{◌≡◌, refl, ◌∙◌}
-use native.Mathlib.Omega.{arith}
+use mathlib.Core.Path.{◌≡◌}
 use lib.ListN.{length, take, drop}
-use borrow.Author.Rules.{rules}
-use Rattle.sheet.specs.Settings.{channels}
 use Rattle.bits.specs.Parts.{joined, piece}
-use Rattle.bits.specs.PartsLaws.{fill_start, fill_end}
-use Rattle.frame_rows.specs.RowsLaws.{channel-there, row-held}
-use Rattle.bits.specs.Walks.{lent-long, lent-old, turn-length, turn_more, turn-rest}
-use Rattle.frame_runs.specs.Carried.{next_part, next_row}
+use Rattle.frame_runs.specs.Carried.{next_part}
 use Rattle.frame_runs.proofs.rows.next_row.Given as goal
 
 abbrev pub invariant-loop-c : goal.invariant-loop-c

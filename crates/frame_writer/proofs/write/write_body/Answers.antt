@@ -1,6 +1,5 @@
 -- The sheet's number, or the work under an accepted sheet.
 use mathlib.Core.Path.{sym, ◌∙◌}
-use borrow.Author.Rules.{rules}
 use Rattle.frame.specs.AnswersLaws.{body_refused}
 use Rattle.frame_writer.specs.AnswersLaws.{write-sheet, write-accepted}
 use Rattle.sheet.proofs.SettingsLaws.{settings-legal}

@@ -3,7 +3,6 @@ use Prim.Native.Nat.{◌≤◌, ◌<◌}
 use mathlib.Core.Path.{refl, ap, ◌∙◌}
 use native.Mathlib.Omega.{arith}
 use lib.ListN.{length}
-use borrow.Author.Rules.{rules}
 use Rattle.bits.specs.Bytes.{bytes_for}
 use Rattle.frame.specs.AnswersLaws.{body_refused, body-accepted}
 use Rattle.frame_body.specs.CountLaws.{legal-baps, counts-from-baps}

@@ -2,8 +2,7 @@
 use mathlib.Core.Path.{ap, ◌∙◌}
 use native.Mathlib.Omega.{arith}
 use lib.ListN.{length}
-use borrow.Author.Rules.{rules}
-use Rattle.bits.specs.Tests.{held_false, held_true, passed, failed}
+use Rattle.bits.specs.Tests.{held_false, held_true}
 use Rattle.frame.specs.AnswersLaws.{body_refused}
 use Rattle.frame.specs.Legal.{LegalFrame}
 use Rattle.frame.specs.Layout.{cleaned}

@@ -1,7 +1,6 @@
 -- Both buffers have the sheet's length, or 10.
 use mathlib.Core.Path.{sym, ap, ◌∙◌}
 use native.Mathlib.Omega.{arith}
-use borrow.Author.Rules.{rules}
 use Rattle.sheet.specs.Layout.{buffer_length}
 use Rattle.frame.specs.AnswersLaws.{body_refused}
 use Rattle.frame_rows.specs.RowsLaws.{}

@@ -4,7 +4,6 @@ use Prim.Native.Nat.{ℕ}
 use mathlib.Core.Path.{◌≡◌, sym, ap, ◌∙◌}
 use mathlib.Core.List.{List}
 use lib.Dec.{ltb}
-use borrow.Author.Rules.{rules}
 use Rattle.sheet.specs.Common.{common_of, channels_of}
 use Rattle.sheet.specs.Sheet.{check_beside}
 use Rattle.sheet.specs.declared.common_part.Common.{Common}

@@ -2,7 +2,6 @@
 use mathlib.Core.Path.{sym, ◌∙◌}
 use borrow.Author.Tests.{eq-eqb, ne_eqb}
 use Rattle.host.specs.EntriesLaws.{range_length, range-fault, range-called, slot-left, value-holds, not-called, called-output}
-use borrow.Author.Rules.{rules}
 use Rattle.host.proofs.exponent_entries.ac3_write_exponents_grouped.Goals as goal
 
 pub returns-then-in_range : goal.returns-then-in_range

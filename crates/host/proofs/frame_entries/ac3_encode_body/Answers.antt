@@ -1,7 +1,6 @@
 -- The length of the result slice, then the call.
 use borrow.Author.Tests.{eq-eqb, ne_eqb}
 use Rattle.host.specs.EntriesLaws.{sheet-wrong, frame-called, slot-left, counts-hold, not-called, called-left, called-body}
-use borrow.Author.Rules.{rules}
 use Rattle.host.proofs.frame_entries.ac3_encode_body.Goals as goal
 
 pub returns-then-counts-ne12 : goal.returns-then-counts-ne12

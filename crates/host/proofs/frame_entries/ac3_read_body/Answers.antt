@@ -3,7 +3,6 @@ use mathlib.Core.Path.{ap, ◌∙◌}
 use mathlib.Core.List.{[], ◌∷◌}
 use Rattle.frame.specs.declared.answer.FrameAnswer.{FrameAnswer}
 use Rattle.host.specs.EntriesLaws.{sheet-wrong, frame-called, slot-left, not-called, called, both_right, counts-wrong, bits-wrong, none-returned, all-returned}
-use borrow.Author.Rules.{rules}
 use Rattle.host.proofs.frame_entries.ac3_read_body.Goals as goal
 
 pub returns-then-counts-ne12 : goal.returns-then-counts-ne12

@@ -1,6 +1,5 @@
 -- One entry holds 0; another length is left.
 use Rattle.host.specs.EntriesLaws.{slot-holds, slot-left}
-use borrow.Author.Rules.{rules}
 use Rattle.host.proofs.frame_entries.no_bits.Goals as goal
 
 pub returns-then-bits-eq1 : goal.returns-then-bits-eq1

@@ -1,6 +1,5 @@
 -- Twelve entries hold 0; another length is left.
 use Rattle.host.specs.EntriesLaws.{slot-holds, slot-left}
-use borrow.Author.Rules.{rules}
 use Rattle.host.proofs.frame_entries.no_counts.Goals as goal
 
 pub returns-then-counts-eq12 : goal.returns-then-counts-eq12

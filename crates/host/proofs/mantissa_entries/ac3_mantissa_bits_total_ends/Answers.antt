@@ -3,7 +3,6 @@ use mathlib.Core.Path.{ap, ◌∙◌}
 use borrow.Author.Tests.{eq-eqb, ne_eqb}
 use Rattle.mantissas.specs.declared.blocks.MantissaBits.{MantissaBits}
 use Rattle.host.specs.EntriesLaws.{sheet-wrong, sheet-right, slot-left, slot-holds}
-use borrow.Author.Rules.{rules}
 use Rattle.host.proofs.mantissa_entries.ac3_mantissa_bits_total_ends.Goals as goal
 
 pub returns-then-counts-ne6 : goal.returns-then-counts-ne6

@@ -5,7 +5,6 @@ use borrow.Author.Tests.{eq-eqb, ne_eqb}
 use Rattle.bits.specs.declared.answer.Answer.{Answer}
 use Rattle.quantiser.specs.CodeLaws.{quantised-most}
 use Rattle.host.specs.EntriesLaws.{length-wrong, length-called, slot-left, value-holds}
-use borrow.Author.Rules.{rules}
 use Rattle.host.proofs.mantissa_entries.ac3_quantise_mantissa.Goals as goal
 
 pub returns-then-code-ne1 : goal.returns-then-code-ne1

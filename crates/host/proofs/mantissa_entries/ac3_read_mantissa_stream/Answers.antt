@@ -1,7 +1,6 @@
 -- The entry of `read_mantissa_stream`: the length of the result slice, then the call.
 use borrow.Author.Tests.{eq-eqb, ne_eqb}
 use Rattle.host.specs.EntriesLaws.{length-wrong, length-called, slot-left, value-holds, not-called, called}
-use borrow.Author.Rules.{rules}
 use Rattle.host.proofs.mantissa_entries.ac3_read_mantissa_stream.Goals as goal
 
 pub returns-then-bits-ne1 : goal.returns-then-bits-ne1

@@ -6,7 +6,6 @@ use lib.Ieee.{Float}
 use Rattle.reconstruct.specs.Bin.{flag_of, level_of}
 use Rattle.reconstruct.specs.declared.mantissa.BinAnswer.{BinAnswer}
 use Rattle.host.specs.EntriesLaws.{length-wrong, length-right, slot-left, one_each_lem, flag-wrong, level-wrong, none-returned, all-returned}
-use borrow.Author.Rules.{rules}
 use Rattle.host.proofs.reconstruct_entries.ac3_reconstruct_mantissa.Goals as goal
 
 pub returns-then-has_level-ne1 : goal.returns-then-has_level-ne1

@@ -1,6 +1,5 @@
 -- One entry holds 0; another length is left.
 use Rattle.host.specs.EntriesLaws.{slot-holds, slot-left}
-use borrow.Author.Rules.{rules}
 use Rattle.host.proofs.reconstruct_entries.no_flag.Goals as goal
 
 pub returns-then-flag-eq1 : goal.returns-then-flag-eq1

@@ -1,6 +1,5 @@
 -- The one entry holds what is returned.
 use Rattle.host.specs.EntriesLaws.{set-one}
-use borrow.Author.Rules.{rules}
 use Rattle.host.proofs.results.return_count.Goals as goal
 
 pub returns : goal.returns

@@ -2,11 +2,9 @@ use Prim.Native.Nat.{◌+◌, ◌*◌, ◌≤◌, ◌-◌}
 use mathlib.Core.Path.{◌≡◌, refl, ◌∙◌}
 use mathlib.Core.List.{[]}
 use native.Mathlib.Omega.{arith}
-use lib.ListN.{length, take, get_or}
-use Rattle.bits.specs.Parts.{joined}
+use lib.ListN.{length}
 use Rattle.bits.specs.PartsLaws.{part-long, fill_start, fill_more, fill-length, fill_end}
 use Rattle.host.specs.Entries.{rows_of}
-use borrow.Author.Rules.{rules}
 use Rattle.host.proofs.results.return_rows.Goals as goal
 
 pub loop-c-init : goal.loop-c-init

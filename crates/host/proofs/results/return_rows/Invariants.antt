@@ -1,13 +1,9 @@
 -- The rows stand one after the other.
-use Prim.Native.Nat.{◌+◌, ◌*◌, ◌≤◌, ◌-◌}
-use mathlib.Core.Path.{◌≡◌, refl, ◌∙◌}
+use Prim.Native.Nat.{◌*◌, ◌≤◌, ◌-◌}
+use mathlib.Core.Path.{◌≡◌}
 use mathlib.Core.List.{[]}
-use native.Mathlib.Omega.{arith}
 use lib.ListN.{length, take, get_or}
 use Rattle.bits.specs.Parts.{joined}
-use Rattle.bits.specs.PartsLaws.{part-long, fill_start, fill_more, fill-length, fill_end}
-use Rattle.host.specs.Entries.{rows_of}
-use borrow.Author.Rules.{rules}
 use Rattle.host.proofs.results.return_rows.Given as goal
 
 abbrev pub invariant-loop-c : goal.invariant-loop-c

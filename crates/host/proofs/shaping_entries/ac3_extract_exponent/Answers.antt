@@ -5,7 +5,6 @@ use borrow.Author.Tests.{eq-eqb, ne_eqb}
 use Rattle.bits.specs.declared.answer.Answer.{Answer}
 use Rattle.shaping.specs.ExtractLaws.{extracted-most}
 use Rattle.host.specs.EntriesLaws.{length-wrong, length-called, slot-left, value-holds}
-use borrow.Author.Rules.{rules}
 use Rattle.host.proofs.shaping_entries.ac3_extract_exponent.Goals as goal
 
 pub returns-then-exponent-ne1 : goal.returns-then-exponent-ne1

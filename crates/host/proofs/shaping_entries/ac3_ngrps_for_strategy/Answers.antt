@@ -11,7 +11,6 @@ use Rattle.shaping.specs.Groups.{groups_answer}
 use Rattle.shaping.specs.Passes.{is_span}
 use Rattle.host.specs.Entries.{has_length, range_first, returned}
 use Rattle.host.specs.EntriesLaws.{range_length, range-fault, range-called, slot-left, value-holds}
-use borrow.Author.Rules.{rules}
 use Rattle.host.proofs.shaping_entries.ac3_ngrps_for_strategy.Goals as goal
 
 called : (end span s number : ℕ) (slot slot' : List ℕ) → length slot ≡ 1 → span ≡ s

@@ -5,7 +5,6 @@ use borrow.Author.Tests.{eq-eqb, ne_eqb, le-leb, lt-leb}
 use Rattle.bits.specs.declared.answer.Answer.{Answer}
 use Rattle.shaping.specs.StrategyLaws.{picked-most}
 use Rattle.host.specs.EntriesLaws.{range_length, range-fault, range-called, slot-left, value-holds}
-use borrow.Author.Rules.{rules}
 use Rattle.host.proofs.shaping_entries.ac3_pick_strategy_for_block.Goals as goal
 
 pub returns-then-end-le256 : goal.returns-then-end-le256

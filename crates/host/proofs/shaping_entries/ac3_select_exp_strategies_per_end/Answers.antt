@@ -4,11 +4,10 @@ use mathlib.Core.Path.{sym, ap, ◌∙◌}
 use mathlib.Core.List.{List}
 use borrow.Author.Tests.{eqb-true, eqb-false}
 use lib.ListN.{length}
-use Rattle.bits.specs.Tests.{held_false, held_true, passed, failed}
+use Rattle.bits.specs.Tests.{held_false, held_true}
 use Rattle.shaping.specs.StrategyLaws.{selectable}
 use Rattle.host.specs.Entries.{rows_of}
 use Rattle.host.specs.EntriesLaws.{select-range, select-length, select-right, slot-left, zeros-returned, rows-returned}
-use borrow.Author.Rules.{rules}
 use Rattle.host.proofs.shaping_entries.ac3_select_exp_strategies_per_end.Goals as goal
 
 pub returns-then-number-eq-OUT_OF_RANGE : goal.returns-then-number-eq-OUT_OF_RANGE

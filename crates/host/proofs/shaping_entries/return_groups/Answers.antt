@@ -2,7 +2,6 @@
 use mathlib.Core.Path.{ap, ◌∙◌}
 use mathlib.Core.List.{[], ◌∷◌}
 use Rattle.bits.specs.declared.answer.Answer.{Answer}
-use borrow.Author.Rules.{rules}
 use Rattle.host.proofs.shaping_entries.return_groups.Goals as goal
 
 pub returns : goal.returns

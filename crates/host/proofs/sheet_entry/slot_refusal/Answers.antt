@@ -1,7 +1,6 @@
 -- The sheet's number, or a wrong length.
 use mathlib.Core.Path.{refl, sym, ◌∙◌}
 use Rattle.host.specs.EntriesLaws.{sheet-fault, sheet-length}
-use borrow.Author.Rules.{rules}
 use Rattle.host.proofs.sheet_entry.slot_refusal.Goals as goal
 
 pub returns-then-number-ne-ACCEPTED : goal.returns-then-number-ne-ACCEPTED

@@ -1,5 +1,4 @@
 -- The entry of `write_alone`: its width, the length of the result slice, then the call.
-use borrow.Author.Rules.{rules}
 use borrow.Author.Tests.{eq-eqb, ne_eqb, le-leb, lt-leb}
 use Rattle.host.specs.EntriesLaws.{range_length, range-fault, range-called, slot-left, value-holds, not-called, called-output}
 use Rattle.host.proofs.writer_entry.ac3_write_u32.Goals as goal

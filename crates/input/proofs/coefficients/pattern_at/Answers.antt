@@ -1,7 +1,6 @@
 -- Four bytes, the highest first.
 use native.Mathlib.Omega.{arith}
 use Rattle.input.specs.Input.{pattern_at}
-use borrow.Author.Rules.{rules}
 use Rattle.input.proofs.coefficients.pattern_at.Goals as goal
 
 pub returns : goal.returns

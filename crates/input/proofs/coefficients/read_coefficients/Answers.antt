@@ -1,13 +1,10 @@
-use Prim.Native.Nat.{◌-◌, ◌*◌, ◌≤◌}
-use mathlib.Core.Path.{◌≡◌, refl, ap, ◌∙◌}
+use mathlib.Core.Path.{refl, ap, ◌∙◌}
 use mathlib.Core.List.{[]}
 use native.Mathlib.Omega.{arith}
-use lib.ListN.{length, take, length-set}
-use borrow.Author.Rules.{rules}
-use Rattle.bits.specs.Parts.{tab}
+use lib.ListN.{length-set}
 use Rattle.bits.specs.PartsLaws.{tab-start, tab-more, tab-end}
 use Rattle.shaping.specs.Pattern.{coefficient}
-use Rattle.input.specs.Input.{coefficients_in, pattern_at}
+use Rattle.input.specs.Input.{coefficients_in}
 use Rattle.input.proofs.coefficients.read_coefficients.Goals as goal
 
 pub loop-i-init : goal.loop-i-init

@@ -5,7 +5,6 @@ use native.Mathlib.Omega.{arith}
 use lib.ListN.{length}
 use Rattle.frame_rows.specs.RowsLaws.{length-no_buffer}
 use Rattle.input.specs.ProgramLaws.{front-room, front-taken, front_long, encoded, lengths-same}
-use borrow.Author.Rules.{rules}
 use Rattle.input.proofs.program.encode_bytes.Goals as goal
 
 pub slice_bounds-encode_body-end : goal.slice_bounds-encode_body-end

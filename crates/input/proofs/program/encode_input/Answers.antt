@@ -1,10 +1,8 @@
 -- The sheet, the number of coefficient bytes, then the call.
 use mathlib.Core.Path.{sym, ap, ◌∙◌}
 use native.Mathlib.Omega.{arith}
-use Prim.Native.Nat.{◌-◌}
 use lib.ListN.{length, length-drop}
 use Rattle.input.specs.ProgramLaws.{rest-whole, program-sheet, program-length, program-encoded, whole-buffer, buffer-most}
-use borrow.Author.Rules.{rules}
 use Rattle.sheet.proofs.SettingsLaws.{settings-legal}
 use Rattle.input.proofs.program.encode_input.Goals as goal
 

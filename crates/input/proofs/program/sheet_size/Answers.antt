@@ -1,7 +1,6 @@
 -- The lesser of the two.
 use native.Mathlib.Omega.{arith}
 use Rattle.input.specs.Input.{sheet_size}
-use borrow.Author.Rules.{rules}
 use Rattle.input.proofs.program.sheet_size.Goals as goal
 
 pub returns-then-size-input : goal.returns-then-size-input

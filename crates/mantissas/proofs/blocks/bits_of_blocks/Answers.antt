@@ -1,8 +1,7 @@
 -- Each way out in the order of the refusals: laws of Answers.antt.
 use mathlib.Core.Path.{◌≡◌, sym, ap, ◌∙◌}
 use Prim.Native.Nat.{ℕ}
-use borrow.Author.Rules.{rules}
-use Rattle.bits.specs.Tests.{held_false, held_true, passed, failed}
+use Rattle.bits.specs.Tests.{held_false, held_true}
 use Rattle.mantissas.specs.CodedLaws.{baps-true}
 use Rattle.mantissas.proofs.Answers as answers
 use Rattle.sheet.specs.Layout.{buffer_length}

@@ -1,12 +1,5 @@
-use mathlib.Core.Path.{◌≡◌}
-use Prim.Native.Nat.{◌-◌, ◌≤◌}
 use native.Mathlib.Omega.{arith}
-use borrow.Author.Rules.{rules}
-use Rattle.bits.specs.Parts.{joined}
-use Rattle.mantissas.specs.Blocks.{part_baps}
-use Rattle.mantissas.specs.Stream.{baps_fit}
 use Rattle.mantissas.proofs.Joining.{part-taken, part-fits, fits-start, fits_more, fits-block}
-use Rattle.sheet.specs.Settings.{channels}
 use Rattle.sheet.proofs.SettingsLaws.{channels-bounds}
 use Rattle.mantissas.proofs.blocks.check_block.Goals as goal
 

@@ -1,11 +1,6 @@
 use mathlib.Core.Path.{◌≡◌, refl}
-use Prim.Native.Nat.{◌-◌, ◌≤◌}
 use native.Mathlib.Omega.{arith}
-use Rattle.bits.specs.Parts.{joined}
-use Rattle.mantissas.specs.Blocks.{block_baps}
-use Rattle.mantissas.specs.Stream.{baps_fit}
 use Rattle.mantissas.proofs.Joining.{fits-start, fits_more}
-use borrow.Author.Rules.{rules}
 use Rattle.mantissas.proofs.blocks.check_blocks.Goals as goal
 
 pub loop-block-init : goal.loop-block-init

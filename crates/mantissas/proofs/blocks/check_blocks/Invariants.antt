@@ -1,12 +1,9 @@
 -- After some blocks: whether their baps fit.
-use mathlib.Core.Path.{◌≡◌, refl}
+use mathlib.Core.Path.{◌≡◌}
 use Prim.Native.Nat.{◌-◌, ◌≤◌}
-use native.Mathlib.Omega.{arith}
 use Rattle.bits.specs.Parts.{joined}
 use Rattle.mantissas.specs.Blocks.{block_baps}
 use Rattle.mantissas.specs.Stream.{baps_fit}
-use Rattle.mantissas.proofs.Joining.{fits-start, fits_more}
-use borrow.Author.Rules.{rules}
 use Rattle.mantissas.proofs.blocks.check_blocks.Given as goal
 
 abbrev pub invariant-loop-block : goal.invariant-loop-block

@@ -1,10 +1,7 @@
-use mathlib.Core.Path.{◌≡◌, refl}
-use Prim.Native.Nat.{◌*◌, ◌-◌, ◌^◌, ◌≤◌, ◌<◌}
+use mathlib.Core.Path.{refl}
+use Prim.Native.Nat.{◌<◌}
 use native.Mathlib.Omega.{arith}
-use borrow.Author.Rules.{rules}
-use Rattle.bits.specs.Parts.{joined}
 use Rattle.mantissas.specs.Blocks.{part_baps}
-use Rattle.mantissas.specs.Tally.{tally_of}
 use Rattle.mantissas.proofs.Joining.{part-below, tally-start, tally-more, tally-block}
 use Rattle.sheet.specs.Settings.{channels}
 use Rattle.mantissas.proofs.blocks.count_block.Goals as goal

@@ -1,12 +1,9 @@
 -- After c channels: their baps are weighed.
-use mathlib.Core.Path.{◌≡◌, refl}
-use Prim.Native.Nat.{◌*◌, ◌-◌, ◌^◌, ◌≤◌, ◌<◌}
-use native.Mathlib.Omega.{arith}
-use borrow.Author.Rules.{rules}
+use mathlib.Core.Path.{◌≡◌}
+use Prim.Native.Nat.{◌*◌, ◌-◌, ◌^◌, ◌≤◌}
 use Rattle.bits.specs.Parts.{joined}
 use Rattle.mantissas.specs.Blocks.{part_baps}
 use Rattle.mantissas.specs.Tally.{tally_of}
-use Rattle.mantissas.proofs.Joining.{part-below, tally-start, tally-more, tally-block}
 use Rattle.sheet.specs.Settings.{channels}
 use Rattle.mantissas.proofs.blocks.count_block.Given as goal
 

@@ -1,13 +1,8 @@
-use mathlib.Core.Path.{◌≡◌, refl}
-use Prim.Native.Nat.{◌-◌, ◌≤◌}
+use mathlib.Core.Path.{refl}
 use native.Mathlib.Omega.{arith}
-use lib.ListN.{length, take, replicate, length-set}
-use Rattle.bits.specs.Parts.{tab}
+use lib.ListN.{replicate, length-set}
 use Rattle.bits.specs.PartsLaws.{tab-start, tab-more, tab-end}
-use Rattle.mantissas.specs.Blocks.{block_baps}
-use Rattle.mantissas.specs.Stream.{bit_count}
 use Rattle.mantissas.proofs.Joining.{below-joined}
-use borrow.Author.Rules.{rules}
 use Rattle.mantissas.proofs.blocks.count_blocks.Goals as goal
 
 pub loop-block-init : goal.loop-block-init

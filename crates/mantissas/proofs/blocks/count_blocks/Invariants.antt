@@ -1,14 +1,10 @@
 -- After some blocks: their counts are in.
-use mathlib.Core.Path.{◌≡◌, refl}
+use mathlib.Core.Path.{◌≡◌}
 use Prim.Native.Nat.{◌-◌, ◌≤◌}
-use native.Mathlib.Omega.{arith}
-use lib.ListN.{length, take, replicate, length-set}
+use lib.ListN.{length, take}
 use Rattle.bits.specs.Parts.{tab}
-use Rattle.bits.specs.PartsLaws.{tab-start, tab-more, tab-end}
 use Rattle.mantissas.specs.Blocks.{block_baps}
 use Rattle.mantissas.specs.Stream.{bit_count}
-use Rattle.mantissas.proofs.Joining.{below-joined}
-use borrow.Author.Rules.{rules}
 use Rattle.mantissas.proofs.blocks.count_blocks.Given as goal
 
 abbrev pub invariant-loop-block : goal.invariant-loop-block

@@ -1,6 +1,5 @@
 -- The sheet's refusals, or the counts under its channels and ends.
 use mathlib.Core.Path.{sym, ap, ◌∙◌}
-use borrow.Author.Rules.{rules}
 use Rattle.mantissas.specs.Blocks.{no_bits, blocks_answer}
 use Rattle.mantissas.proofs.Answers as answers
 use Rattle.sheet.proofs.SettingsLaws.{settings-legal}

@@ -1,7 +1,6 @@
 -- The channel's part below its end is weighed.
 use mathlib.Core.Path.{ap}
 use native.Mathlib.Omega.{arith}
-use borrow.Author.Rules.{rules}
 use Rattle.mantissas.specs.Tally.{tally_of}
 use Rattle.mantissas.proofs.Joining.{part-taken, part-fits, part_length}
 use Rattle.mantissas.proofs.blocks.tally_part.Goals as goal

@@ -1,11 +1,6 @@
-use mathlib.Core.Path.{◌≡◌, ◌∙◌}
-use mathlib.Core.Bool.{◌&&◌}
-use Prim.Native.Nat.{◌-◌, ◌≤◌}
+use mathlib.Core.Path.{◌∙◌}
 use native.Mathlib.Omega.{arith}
-use lib.ListN.{length}
-use borrow.Author.Rules.{rules}
-use Rattle.mantissas.specs.Stream.{baps_fit}
-use Rattle.mantissas.proofs.Checking.{baps_from, baps-start, baps-next, baps-end}
+use Rattle.mantissas.proofs.Checking.{baps-start, baps-next, baps-end}
 use Rattle.mantissas.proofs.code.check_baps.Goals as goal
 
 pub loop-i-init : goal.loop-i-init

@@ -1,12 +1,10 @@
 -- Those tested so far and those that are left decide.
-use mathlib.Core.Path.{◌≡◌, ◌∙◌}
+use mathlib.Core.Path.{◌≡◌}
 use mathlib.Core.Bool.{◌&&◌}
 use Prim.Native.Nat.{◌-◌, ◌≤◌}
-use native.Mathlib.Omega.{arith}
 use lib.ListN.{length}
-use borrow.Author.Rules.{rules}
 use Rattle.mantissas.specs.Stream.{baps_fit}
-use Rattle.mantissas.proofs.Checking.{baps_from, baps-start, baps-next, baps-end}
+use Rattle.mantissas.proofs.Checking.{baps_from}
 use Rattle.mantissas.proofs.code.check_baps.Given as goal
 
 abbrev pub invariant-loop-i : goal.invariant-loop-i

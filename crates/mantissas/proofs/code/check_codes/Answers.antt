@@ -1,10 +1,7 @@
-use mathlib.Core.Path.{◌≡◌, ◌∙◌}
-use Prim.Native.Nat.{◌-◌, ◌≤◌}
-use lib.ListN.{length, get_or}
-use Rattle.mantissas.specs.Inner.{LevelTable}
-use Rattle.mantissas.specs.Stream.{coded}
+use mathlib.Core.Path.{◌∙◌}
+use lib.ListN.{get_or}
 use Rattle.mantissas.proofs.Arrays.{level-listed}
-use Rattle.mantissas.proofs.Checking.{coded_from, coded-start, coded-next, coded-bap, coded-code, coded-end}
+use Rattle.mantissas.proofs.Checking.{coded-start, coded-next, coded-bap, coded-code, coded-end}
 use native.Mathlib.Omega.{arith}
 use borrow.Author.Rules.{rules}
 use Rattle.mantissas.proofs.code.check_codes.Goals as goal

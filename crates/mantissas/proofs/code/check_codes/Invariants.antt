@@ -1,13 +1,10 @@
 -- What is left of the lists decides: each way through the body is a law of Checking.antt.
-use mathlib.Core.Path.{◌≡◌, ◌∙◌}
+use mathlib.Core.Path.{◌≡◌}
 use Prim.Native.Nat.{◌-◌, ◌≤◌}
-use lib.ListN.{length, get_or}
+use lib.ListN.{length}
 use Rattle.mantissas.specs.Inner.{LevelTable}
 use Rattle.mantissas.specs.Stream.{coded}
-use Rattle.mantissas.proofs.Arrays.{level-listed}
-use Rattle.mantissas.proofs.Checking.{coded_from, coded-start, coded-next, coded-bap, coded-code, coded-end}
-use native.Mathlib.Omega.{arith}
-use borrow.Author.Rules.{rules}
+use Rattle.mantissas.proofs.Checking.{coded_from}
 use Rattle.mantissas.proofs.code.check_codes.Given as goal
 
 abbrev pub invariant-loop-i : goal.invariant-loop-i

@@ -1,8 +1,6 @@
 use mathlib.Core.Path.{◌≡◌, refl, ◌∙◌}
-use Prim.Native.Nat.{◌-◌, ◌≤◌}
 use native.Mathlib.Omega.{arith}
-use borrow.Author.Rules.{rules}
-use lib.ListN.{length, take, replicate, length-set}
+use lib.ListN.{replicate, length-set}
 use Rattle.bits.specs.Parts.{tab, joined}
 use Rattle.bits.specs.PartsLaws.{tab-start, tab-more, tab-end}
 use Rattle.tables.specs.Entry.{entry}

@@ -1,13 +1,9 @@
 -- The baps before the present one have their sizes; those of all sixteen are the list.
-use mathlib.Core.Path.{◌≡◌, refl, ◌∙◌}
+use mathlib.Core.Path.{◌≡◌}
 use Prim.Native.Nat.{◌-◌, ◌≤◌}
-use native.Mathlib.Omega.{arith}
-use borrow.Author.Rules.{rules}
-use lib.ListN.{length, take, replicate, length-set}
-use Rattle.bits.specs.Parts.{tab, joined}
-use Rattle.bits.specs.PartsLaws.{tab-start, tab-more, tab-end}
-use Rattle.tables.specs.Entry.{entry}
-use Rattle.mantissas.specs.Ranges.{size, group_sizes}
+use lib.ListN.{length, take}
+use Rattle.bits.specs.Parts.{tab}
+use Rattle.mantissas.specs.Ranges.{size}
 use Rattle.mantissas.proofs.code.group_sizes.Given as goal
 
 abbrev pub invariant-loop-b : goal.invariant-loop-b

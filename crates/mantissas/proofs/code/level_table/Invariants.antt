@@ -1,13 +1,8 @@
 -- The baps before the present one have their levels.
-use mathlib.Core.List.{List}
-use mathlib.Core.Path.{◌≡◌, refl}
-use Prim.Native.Nat.{ℕ, ◌-◌, ◌≤◌, ◌<◌}
-use native.Mathlib.Omega.{arith}
-use borrow.Author.Rules.{rules}
-use lib.ListN.{length, take, replicate, length-set}
+use mathlib.Core.Path.{◌≡◌}
+use Prim.Native.Nat.{◌-◌, ◌≤◌}
+use lib.ListN.{length, take}
 use Rattle.bits.specs.Parts.{tab}
-use Rattle.bits.specs.PartsLaws.{tab-start, tab-more, tab-end, get_or-tab}
-use Rattle.tables.specs.Entry.{entry}
 use Rattle.mantissas.specs.Ranges.{levels}
 use Rattle.mantissas.proofs.code.level_table.Given as goal
 

@@ -1,6 +1,5 @@
 -- The formula as it stands: no sum is so great that the whole would not fit.
 use mathlib.Core.Path.{refl}
-use borrow.Author.Rules.{rules}
 use Rattle.mantissas.specs.Tally.{tally_bits}
 use Rattle.mantissas.proofs.count.bits_of.Goals as goal
 

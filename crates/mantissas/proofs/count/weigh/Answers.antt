@@ -1,10 +1,6 @@
-use mathlib.Core.Path.{◌≡◌}
-use Prim.Native.Nat.{◌+◌, ◌-◌, ◌*◌, ◌^◌, ◌≤◌}
 use native.Mathlib.Omega.{arith}
-use lib.ListN.{length, take}
 use borrow.Author.Rules.{rules}
 use Rattle.mantissas.specs.DigitsLaws.{below_at}
-use Rattle.mantissas.specs.Tally.{tally_of}
 use Rattle.mantissas.proofs.Weighing.{bin-most, weigh-start, weigh-turn, weigh-end}
 use Rattle.mantissas.proofs.count.weigh.Goals as goal
 

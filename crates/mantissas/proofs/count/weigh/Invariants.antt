@@ -1,12 +1,8 @@
 -- After i bins their weights are in; each turn is a law of Weighing.antt.
 use mathlib.Core.Path.{◌≡◌}
 use Prim.Native.Nat.{◌+◌, ◌-◌, ◌*◌, ◌^◌, ◌≤◌}
-use native.Mathlib.Omega.{arith}
 use lib.ListN.{length, take}
-use borrow.Author.Rules.{rules}
-use Rattle.mantissas.specs.DigitsLaws.{below_at}
 use Rattle.mantissas.specs.Tally.{tally_of}
-use Rattle.mantissas.proofs.Weighing.{bin-most, weigh-start, weigh-turn, weigh-end}
 use Rattle.mantissas.proofs.count.weigh.Given as goal
 
 abbrev pub invariant-loop-i : goal.invariant-loop-i

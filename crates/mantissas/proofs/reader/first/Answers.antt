@@ -1,7 +1,6 @@
 -- A quotient of a number below 65536 fits 16 bits.
 use native.Mathlib.Nat.{div-le_self}
 use native.Mathlib.Omega.{arith}
-use borrow.Author.Rules.{rules}
 use Rattle.mantissas.proofs.reader.first.Goals as goal
 
 pub overflow_cast-result : goal.overflow_cast-result

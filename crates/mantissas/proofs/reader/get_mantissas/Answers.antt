@@ -1,14 +1,12 @@
-use mathlib.Core.Path.{◌≡◌, refl}
-use Prim.Native.Nat.{◌+◌, ◌*◌, ◌-◌, ◌≤◌, ◌<◌}
+use mathlib.Core.Path.{refl}
+use Prim.Native.Nat.{◌<◌}
 use native.Mathlib.Omega.{arith}
-use lib.ListN.{length, get_or, length-set}
+use lib.ListN.{get_or, length-set}
 use borrow.Author.Rules.{rules}
-use Rattle.bits.specs.Field.{bits_of}
 use Rattle.bits.specs.FieldLaws.{length-bits_of}
 use Rattle.mantissas.specs.DigitsLaws.{below_at}
-use Rattle.mantissas.specs.Inner.{Started}
 use Rattle.mantissas.proofs.Arrays.{started-zeros, started-set}
-use Rattle.mantissas.proofs.Reading.{Reading, read-start, read-new, read-old, read-fault, read-end}
+use Rattle.mantissas.proofs.Reading.{read-start, read-new, read-old, read-fault, read-end}
 use Rattle.mantissas.proofs.reader.get_mantissas.Goals as goal
 
 pub loop-i-init : goal.loop-i-init

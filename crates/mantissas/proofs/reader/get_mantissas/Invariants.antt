@@ -1,15 +1,10 @@
 -- The codes up to bin i are in, and with those from there on they are what is read; each way through the body is a law of Reading.antt.
-use mathlib.Core.Path.{◌≡◌, refl}
-use Prim.Native.Nat.{◌+◌, ◌*◌, ◌-◌, ◌≤◌, ◌<◌}
-use native.Mathlib.Omega.{arith}
-use lib.ListN.{length, get_or, length-set}
-use borrow.Author.Rules.{rules}
+use mathlib.Core.Path.{◌≡◌}
+use Prim.Native.Nat.{◌+◌, ◌*◌, ◌-◌, ◌≤◌}
+use lib.ListN.{length}
 use Rattle.bits.specs.Field.{bits_of}
-use Rattle.bits.specs.FieldLaws.{length-bits_of}
-use Rattle.mantissas.specs.DigitsLaws.{below_at}
 use Rattle.mantissas.specs.Inner.{Started}
-use Rattle.mantissas.proofs.Arrays.{started-zeros, started-set}
-use Rattle.mantissas.proofs.Reading.{Reading, read-start, read-new, read-old, read-fault, read-end}
+use Rattle.mantissas.proofs.Reading.{Reading}
 use Rattle.mantissas.proofs.reader.get_mantissas.Given as goal
 
 abbrev pub invariant-loop-i : goal.invariant-loop-i

@@ -3,8 +3,7 @@ use mathlib.Core.Path.{ap, ◌∙◌}
 use Prim.Native.Nat.{ℕ}
 use native.Mathlib.Omega.{arith}
 use lib.ListN.{replicate}
-use borrow.Author.Rules.{rules}
-use Rattle.bits.specs.Tests.{held_false, held_true, passed, failed}
+use Rattle.bits.specs.Tests.{held_false, held_true}
 use Rattle.mantissas.specs.CodedLaws.{baps-true}
 use Rattle.mantissas.proofs.Answers as answers
 use Rattle.mantissas.proofs.reader.read_mantissa_stream.Goals as goal

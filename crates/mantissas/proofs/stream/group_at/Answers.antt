@@ -1,12 +1,11 @@
 use mathlib.Core.Path.{refl}
-use Prim.Native.Nat.{◌+◌, ◌-◌, ◌≤◌}
-use lib.ListN.{length, get_or}
+use lib.ListN.{get_or}
 use native.Mathlib.Omega.{arith}
 use borrow.Author.Rules.{rules}
 use Rattle.mantissas.specs.CodedLaws.{coded-baps, coded-length}
 use Rattle.mantissas.specs.DigitsLaws.{below_at}
 use Rattle.mantissas.specs.RangesLaws.{row}
-use Rattle.mantissas.proofs.Grouping.{Grouping, group-start, group-pad, group-take, group-skip, group-end, group-room}
+use Rattle.mantissas.proofs.Grouping.{group-start, group-pad, group-take, group-skip, group-end, group-room}
 use Rattle.mantissas.proofs.stream.group_at.Goals as goal
 
 pub loop-n-init : goal.loop-n-init

@@ -1,13 +1,7 @@
 -- The value so far and the codes from bin j on are the group; each way through the body is a law of Grouping.antt.
-use mathlib.Core.Path.{refl}
 use Prim.Native.Nat.{◌+◌, ◌-◌, ◌≤◌}
-use lib.ListN.{length, get_or}
-use native.Mathlib.Omega.{arith}
-use borrow.Author.Rules.{rules}
-use Rattle.mantissas.specs.CodedLaws.{coded-baps, coded-length}
-use Rattle.mantissas.specs.DigitsLaws.{below_at}
-use Rattle.mantissas.specs.RangesLaws.{row}
-use Rattle.mantissas.proofs.Grouping.{Grouping, group-start, group-pad, group-take, group-skip, group-end, group-room}
+use lib.ListN.{length}
+use Rattle.mantissas.proofs.Grouping.{Grouping}
 use Rattle.mantissas.proofs.stream.group_at.Given as goal
 
 abbrev pub invariant-loop-n : goal.invariant-loop-n

@@ -1,14 +1,10 @@
-use mathlib.Core.Path.{◌≡◌, refl, ◌∙◌}
-use Prim.Native.Nat.{◌-◌, ◌≤◌}
-use lib.ListN.{length, get_or, length-set}
+use mathlib.Core.Path.{refl, ◌∙◌}
+use lib.ListN.{get_or, length-set}
 use Rattle.mantissas.specs.DigitsLaws.{below_at}
 use Rattle.mantissas.specs.CodedLaws.{coded-baps, coded-length}
-use Rattle.tables.specs.Quantizer.{quantization_bits}
-use Rattle.mantissas.specs.Ranges.{group_sizes}
-use Rattle.mantissas.specs.Inner.{LevelTable}
 use Rattle.mantissas.specs.RangesLaws.{row}
 use Rattle.mantissas.proofs.Arrays.{sizes-long, size-listed, level-listed, some_size, widths-long, width-listed}
-use Rattle.mantissas.proofs.Writing.{Writing, write-start, write-ready, write-none, write_new, write-old, write-end}
+use Rattle.mantissas.proofs.Writing.{write-start, write-ready, write-none, write_new, write-old, write-end}
 use native.Mathlib.Omega.{arith}
 use borrow.Author.Rules.{rules}
 use Rattle.mantissas.proofs.stream.put_mantissas.Goals as goal

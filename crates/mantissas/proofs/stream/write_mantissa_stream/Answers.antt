@@ -1,8 +1,7 @@
 -- Each way out in the order of the refusals, and the bits written: laws of Answers.antt.
 use mathlib.Core.Path.{sym, ◌∙◌}
 use native.Mathlib.Omega.{arith}
-use borrow.Author.Rules.{rules}
-use Rattle.bits.specs.Tests.{held_false, held_true, passed, failed}
+use Rattle.bits.specs.Tests.{held_false, held_true}
 use Rattle.mantissas.specs.CodedLaws.{coded-baps, coded-true}
 use Rattle.mantissas.specs.Count.{length-stream}
 use Rattle.mantissas.proofs.Answers as answers

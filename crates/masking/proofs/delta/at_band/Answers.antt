@@ -1,6 +1,4 @@
-use Prim.Native.Nat.{◌+◌, ◌-◌}
 use native.Mathlib.Omega.{arith}
-use Rattle.masking.specs.Held.{Stands}
 use Rattle.masking.specs.HeldLaws.{following-stands, following-less}
 use Rattle.masking.proofs.delta.at_band.Goals as goal
 

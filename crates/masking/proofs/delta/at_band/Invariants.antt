@@ -1,8 +1,6 @@
 -- The place stands at the band all along; each turn goes one segment on, and past the last one the stop is past every band.
 use Prim.Native.Nat.{◌+◌, ◌-◌}
-use native.Mathlib.Omega.{arith}
 use Rattle.masking.specs.Held.{Stands}
-use Rattle.masking.specs.HeldLaws.{following-stands, following-less}
 use Rattle.masking.proofs.delta.at_band.Given as goal
 
 abbrev pub invariant-loop-place : goal.invariant-loop-place

@@ -1,6 +1,5 @@
 -- The two halves of the codes.
 use native.Mathlib.Omega.{arith}
-use borrow.Author.Rules.{rules}
 use borrow.Author.Tests.{lt-ltb, le-ltb}
 use Rattle.masking.specs.Held.{held_delta}
 use Rattle.masking.proofs.delta.delta_of.Goals as goal

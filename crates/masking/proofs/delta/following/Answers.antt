@@ -1,7 +1,6 @@
 -- A segment that is there, and none.
 use mathlib.Core.Path.{sym}
 use native.Mathlib.Omega.{arith}
-use borrow.Author.Rules.{rules}
 use Rattle.masking.specs.Held.{place_of}
 use Rattle.masking.specs.HeldLaws.{following-in, following-out}
 use Rattle.masking.proofs.delta.following.Goals as goal

@@ -1,6 +1,5 @@
 -- The greater of the two, as numbers.
 use native.Mathlib.Omega.{arith}
-use borrow.Author.Rules.{rules}
 use Rattle.masking.specs.Held.{held_curve}
 use Rattle.masking.proofs.threshold.masking_curve.Goals as goal
 

@@ -2,10 +2,9 @@
 use mathlib.Core.Path.{◌≡◌, sym, ◌∙◌, subst}
 use mathlib.Core.Bool.{true}
 use native.Mathlib.Omega.{arith}
-use borrow.Author.Rules.{rules}
 use lib.Dec.{T}
 use lib.Ieee.Scale.{finite}
-use Rattle.bits.specs.Tests.{held_false, held_true, passed, failed}
+use Rattle.bits.specs.Tests.{held_false, held_true}
 use Rattle.quantiser.specs.CodeLaws.{not_finite, large-exponent, large-bap, all-fine}
 use Rattle.quantiser.proofs.quantise.quantise_mantissa.Goals as goal
 use Rattle.quantiser.proofs.quantise.quantise_mantissa.Goals.{Else-not-is_finite}

@@ -1,5 +1,4 @@
 -- A shift of 1 by at most 24 stays within 32 bits.
-use borrow.Author.Rules.{rules}
 use Rattle.quantiser.specs.ScaleLaws.{power-is}
 use Rattle.quantiser.proofs.scale.power.Goals as goal
 

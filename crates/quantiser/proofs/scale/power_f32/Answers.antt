@@ -1,5 +1,4 @@
 -- A power of two up to 2^24 is an f32.
-use borrow.Author.Rules.{rules}
 use lib.Dec.{le→leb}
 use lib.Pow.{pow_mono}
 use lib.Ieee.{in_float}

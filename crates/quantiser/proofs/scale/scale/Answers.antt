@@ -1,5 +1,4 @@
 -- The callees' contracts, one in the other.
-use borrow.Author.Rules.{rules}
 use Rattle.quantiser.specs.Scale.{scaled}
 use Rattle.quantiser.proofs.scale.scale.Goals as goal
 

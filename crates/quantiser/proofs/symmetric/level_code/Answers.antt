@@ -1,5 +1,4 @@
 -- In the arm of each bap the table that is gone over is the list of its levels.
-use borrow.Author.Rules.{rules}
 use mathlib.Core.Path.{◌≡◌}
 use mathlib.Core.List.{List}
 use Prim.Native.Nat.{ℕ}

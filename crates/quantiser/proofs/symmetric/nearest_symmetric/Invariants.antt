@@ -1,15 +1,8 @@
 -- The best so far and the levels from i on give the nearest of all.
-use borrow.Author.Rules.{rules}
-use mathlib.Core.Path.{◌≡◌, refl}
-use mathlib.Core.Logic.{⊎_elim}
-use Prim.Native.Nat.{ℕ, ◌≤◌, ◌<◌, ◌-◌, ◌+◌}
-use lib.ListN.{length, drop, get_or, drop_of_length-le}
-use lib.Seq.{drop-cons}
-use native.Mathlib.Numerals.{add-one}
-use mathlib.Core.Bool.{Bool, true, false, cond}
-use mathlib.Core.List.{List}
-use lib.Ieee.{Float, nan, lt, div, of_bits}
-use Rattle.quantiser.specs.Symmetric.{nearest_from, nearest_of, distance}
+use mathlib.Core.Path.{◌≡◌}
+use Prim.Native.Nat.{◌≤◌, ◌-◌}
+use lib.ListN.{length, drop}
+use Rattle.quantiser.specs.Symmetric.{nearest_from, nearest_of}
 use Rattle.quantiser.proofs.symmetric.nearest_symmetric.Given as goal
 
 abbrev pub invariant-loop-i : goal.invariant-loop-i

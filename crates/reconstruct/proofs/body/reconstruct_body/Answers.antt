@@ -1,6 +1,5 @@
 -- The sheet is tested first.
 use mathlib.Core.Path.{sym, ◌∙◌}
-use borrow.Author.Rules.{rules}
 use Rattle.sheet.proofs.SettingsLaws.{settings-legal}
 use Rattle.reconstruct.proofs.AnswersLaws.{copy-sheet, copy-accepted}
 use Rattle.reconstruct.proofs.body.reconstruct_body.Goals as goal

@@ -2,8 +2,7 @@
 use mathlib.Core.Path.{ap, ◌∙◌}
 use native.Mathlib.Omega.{arith}
 use lib.ListN.{length}
-use borrow.Author.Rules.{rules}
-use Rattle.bits.specs.Tests.{held_false, held_true, passed, failed}
+use Rattle.bits.specs.Tests.{held_false, held_true}
 use Rattle.frame_rows.specs.RowsLaws.{length-no_buffer, front-lent, front-room, front-filled}
 use Rattle.reconstruct.proofs.AnswersLaws.{copy-bad-exps}
 use Rattle.reconstruct.proofs.body.reconstruct_sized.Goals as goal

@@ -1,7 +1,6 @@
 -- All four buffers have the sheet's length, or 10.
 use mathlib.Core.Path.{sym, ap, ◌∙◌}
 use native.Mathlib.Omega.{arith}
-use borrow.Author.Rules.{rules}
 use Rattle.sheet.specs.Layout.{buffer_length}
 use Rattle.reconstruct.proofs.AnswersLaws.{copy-exps-length, copy-codes-length, copy-flags-length, copy-levels-length}
 use Rattle.reconstruct.proofs.body.reconstruct_under.Goals as goal

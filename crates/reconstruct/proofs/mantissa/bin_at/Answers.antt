@@ -1,6 +1,5 @@
 -- Silent, or the level.
 use Rattle.reconstruct.specs.BinLaws.{bin-silent, bin-level}
-use borrow.Author.Rules.{rules}
 use Rattle.reconstruct.proofs.mantissa.bin_at.Goals as goal
 
 pub returns-then-bap-eq0 : goal.returns-then-bap-eq0

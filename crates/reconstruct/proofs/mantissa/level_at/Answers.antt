@@ -4,7 +4,6 @@ use native.Mathlib.Omega.{arith}
 use Rattle.mantissas.specs.RangesLaws.{row}
 use Rattle.reconstruct.specs.BinLaws.{Sized, fraction-sized, level-made}
 use Rattle.reconstruct.specs.Inner.{value_of}
-use borrow.Author.Rules.{rules}
 use Rattle.reconstruct.proofs.mantissa.level_at.Goals as goal
 
 pub fraction_of-requires : goal.fraction_of-requires

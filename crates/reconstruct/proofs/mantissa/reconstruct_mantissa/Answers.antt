@@ -2,7 +2,6 @@
 use mathlib.Core.Path.{◌∙◌}
 use native.Mathlib.Omega.{arith}
 use Rattle.reconstruct.specs.BinLaws.{bin-exponent, bin-bap, bin-code, bin-given}
-use borrow.Author.Rules.{rules}
 use Rattle.reconstruct.proofs.mantissa.reconstruct_mantissa.Goals as goal
 
 pub returns-then-exponent-gt24 : goal.returns-then-exponent-gt24

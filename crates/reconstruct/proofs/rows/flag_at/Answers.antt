@@ -1,6 +1,5 @@
 -- By the test of the bap.
 use borrow.Author.Tests.{eq-eqb, ne_eqb}
-use borrow.Author.Rules.{rules}
 use Rattle.reconstruct.proofs.rows.flag_at.Goals as goal
 
 pub returns-then-bap-eq0 : goal.returns-then-bap-eq0

@@ -1,12 +1,10 @@
-use mathlib.Core.Path.{◌≡◌, sym, ◌∙◌}
-use Prim.Native.Nat.{ℕ, ◌-◌, ◌≤◌, ◌<◌}
+use mathlib.Core.Path.{sym, ◌∙◌}
+use Prim.Native.Nat.{ℕ, ◌<◌}
 use native.Mathlib.Omega.{arith}
-use lib.ListN.{length, take, get_or, length-set}
-use borrow.Author.Rules.{rules}
-use Rattle.bits.specs.Parts.{tab}
+use lib.ListN.{length, get_or, length-set}
 use Rattle.bits.specs.PartsLaws.{tab-start, tab-more, tab-end}
 use Rattle.mantissas.specs.Ranges.{levels as codeCount}
-use Rattle.reconstruct.specs.Bin.{reconstructed, flag_of, level_of}
+use Rattle.reconstruct.specs.Bin.{flag_of, level_of}
 use Rattle.reconstruct.specs.BinLaws.{bin-flag}
 use Rattle.reconstruct.specs.CopyLaws.{bins-made, coded-entry, count-listed}
 use Rattle.reconstruct.proofs.rows.reconstruct_bins.Goals as goal

@@ -1,15 +1,9 @@
 -- After i turns the first i entries of both outputs are those of the first i bins.
-use mathlib.Core.Path.{◌≡◌, sym, ◌∙◌}
-use Prim.Native.Nat.{ℕ, ◌-◌, ◌≤◌, ◌<◌}
-use native.Mathlib.Omega.{arith}
-use lib.ListN.{length, take, get_or, length-set}
-use borrow.Author.Rules.{rules}
+use mathlib.Core.Path.{◌≡◌}
+use Prim.Native.Nat.{◌-◌, ◌≤◌}
+use lib.ListN.{length, take, get_or}
 use Rattle.bits.specs.Parts.{tab}
-use Rattle.bits.specs.PartsLaws.{tab-start, tab-more, tab-end}
-use Rattle.mantissas.specs.Ranges.{levels as codeCount}
 use Rattle.reconstruct.specs.Bin.{reconstructed, flag_of, level_of}
-use Rattle.reconstruct.specs.BinLaws.{bin-flag}
-use Rattle.reconstruct.specs.CopyLaws.{bins-made, coded-entry, count-listed}
 use Rattle.reconstruct.proofs.rows.reconstruct_bins.Given as goal
 
 abbrev pub invariant-loop-i : goal.invariant-loop-i

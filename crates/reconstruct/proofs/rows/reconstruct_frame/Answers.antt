@@ -1,16 +1,12 @@
-use mathlib.Core.Path.{◌≡◌, sym, ap, ◌∙◌}
-use mathlib.Core.List.{map}
-use Prim.Native.Nat.{◌*◌, ◌-◌, ◌≤◌}
+use mathlib.Core.Path.{sym, ap, ◌∙◌}
+use Prim.Native.Nat.{◌*◌}
 use native.Mathlib.Omega.{arith}
-use lib.ListN.{length, take}
-use borrow.Author.Rules.{rules}
-use Rattle.bits.specs.Parts.{joined}
+use lib.ListN.{length}
 use Rattle.bits.specs.PartsLaws.{fill_start, fill_end}
-use Rattle.frame.specs.Layout.{row_of}
 use Rattle.frame_rows.specs.RowsLaws.{row_inside, row-lent, length-baps, buffer_held}
 use Rattle.bits.specs.Walks.{lent-long, turn-length, turn_more}
 use Rattle.reconstruct.specs.Bin.{flag_of, level_of}
-use Rattle.reconstruct.specs.Copy.{copy_row, flags_of, levels_of}
+use Rattle.reconstruct.specs.Copy.{flags_of, levels_of}
 use Rattle.reconstruct.specs.CopyLaws.{row-legal, frame_made}
 use Rattle.reconstruct.proofs.rows.reconstruct_frame.Goals as goal
 

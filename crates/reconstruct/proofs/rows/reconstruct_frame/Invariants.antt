@@ -1,18 +1,12 @@
 -- The blocks before block b are made.
-use mathlib.Core.Path.{◌≡◌, sym, ap, ◌∙◌}
+use mathlib.Core.Path.{◌≡◌}
 use mathlib.Core.List.{map}
 use Prim.Native.Nat.{◌*◌, ◌-◌, ◌≤◌}
-use native.Mathlib.Omega.{arith}
 use lib.ListN.{length, take}
-use borrow.Author.Rules.{rules}
 use Rattle.bits.specs.Parts.{joined}
-use Rattle.bits.specs.PartsLaws.{fill_start, fill_end}
 use Rattle.frame.specs.Layout.{row_of}
-use Rattle.frame_rows.specs.RowsLaws.{row_inside, row-lent, length-baps, buffer_held}
-use Rattle.bits.specs.Walks.{lent-long, turn-length, turn_more}
 use Rattle.reconstruct.specs.Bin.{flag_of, level_of}
-use Rattle.reconstruct.specs.Copy.{copy_row, flags_of, levels_of}
-use Rattle.reconstruct.specs.CopyLaws.{row-legal, frame_made}
+use Rattle.reconstruct.specs.Copy.{copy_row}
 use Rattle.reconstruct.proofs.rows.reconstruct_frame.Given as goal
 
 abbrev pub invariant-loop-b : goal.invariant-loop-b

@@ -1,9 +1,7 @@
 -- The bins below end, then the zeros.
 use mathlib.Core.Path.{◌≡◌, ◌∙◌}
-use Prim.Native.Nat.{◌-◌}
 use native.Mathlib.Omega.{arith}
-use lib.ListN.{length, take, length-take}
-use borrow.Author.Rules.{rules}
+use lib.ListN.{length, length-take}
 use Rattle.frame_rows.specs.TwoPartsLaws.{two-parts}
 use Rattle.quantiser.specs.Scale.{zero32}
 use Rattle.reconstruct.specs.Bin.{flag_of, level_of}

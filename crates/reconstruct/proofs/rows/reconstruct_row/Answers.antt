@@ -1,16 +1,12 @@
-use mathlib.Core.Path.{◌≡◌, refl, sym, ap, ◌∙◌}
-use mathlib.Core.List.{map}
-use Prim.Native.Nat.{◌*◌, ◌-◌, ◌≤◌}
+use mathlib.Core.Path.{refl, sym, ap, ◌∙◌}
 use native.Mathlib.Omega.{arith}
-use lib.ListN.{length, take}
-use borrow.Author.Rules.{rules}
-use Rattle.bits.specs.Parts.{joined}
+use lib.ListN.{length}
 use Rattle.bits.specs.PartsLaws.{fill_start, fill_end}
 use Rattle.frame.specs.LayoutLaws.{length-bap_row}
 use Rattle.frame_rows.specs.RowsLaws.{channel-there, row-held}
 use Rattle.bits.specs.Walks.{lent-long, turn-length, turn_more}
 use Rattle.reconstruct.specs.Bin.{flag_of, level_of}
-use Rattle.reconstruct.specs.CopyLaws.{part-lent, part_room, part-legal, length-below, end-most, row_part, row-part, row_made}
+use Rattle.reconstruct.specs.CopyLaws.{part-lent, part_room, part-legal, length-below, end-most, row-part, row_made}
 use Rattle.reconstruct.proofs.rows.reconstruct_row.Goals as goal
 
 pub loop-c-init : goal.loop-c-init

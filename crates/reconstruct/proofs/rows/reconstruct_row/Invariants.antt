@@ -1,17 +1,11 @@
 -- The parts before channel c are made.
-use mathlib.Core.Path.{◌≡◌, refl, sym, ap, ◌∙◌}
+use mathlib.Core.Path.{◌≡◌}
 use mathlib.Core.List.{map}
 use Prim.Native.Nat.{◌*◌, ◌-◌, ◌≤◌}
-use native.Mathlib.Omega.{arith}
 use lib.ListN.{length, take}
-use borrow.Author.Rules.{rules}
 use Rattle.bits.specs.Parts.{joined}
-use Rattle.bits.specs.PartsLaws.{fill_start, fill_end}
-use Rattle.frame.specs.LayoutLaws.{length-bap_row}
-use Rattle.frame_rows.specs.RowsLaws.{channel-there, row-held}
-use Rattle.bits.specs.Walks.{lent-long, turn-length, turn_more}
 use Rattle.reconstruct.specs.Bin.{flag_of, level_of}
-use Rattle.reconstruct.specs.CopyLaws.{part-lent, part_room, part-legal, length-below, end-most, row_part, row-part, row_made}
+use Rattle.reconstruct.specs.CopyLaws.{row_part}
 use Rattle.reconstruct.proofs.rows.reconstruct_row.Given as goal
 
 abbrev pub invariant-loop-c : goal.invariant-loop-c

@@ -1,7 +1,6 @@
 -- By the side of zero.
 use Rattle.std.proofs.Common.{lt-ltb, le-ltb}
 use Rattle.reconstruct.specs.BinLaws.{asymmetric-size}
-use borrow.Author.Rules.{rules}
 use Rattle.reconstruct.proofs.values.asymmetric.Goals as goal
 use Rattle.reconstruct.proofs.values.asymmetric.Goals.{then-positive, else-positive}
 

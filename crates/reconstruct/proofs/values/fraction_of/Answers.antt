@@ -1,6 +1,5 @@
 -- By the bap.
 use borrow.Author.Tests.{lt-ltb, le-ltb}
-use borrow.Author.Rules.{rules}
 use Rattle.reconstruct.proofs.values.fraction_of.Goals as goal
 
 pub returns-then-bap-lt6 : goal.returns-then-bap-lt6

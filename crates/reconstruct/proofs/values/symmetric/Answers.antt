@@ -1,8 +1,6 @@
 -- By the side of zero.
-use Prim.Native.Nat.{◌-◌, ◌*◌}
 use native.Mathlib.Omega.{arith}
 use Rattle.reconstruct.specs.BinLaws.{symmetric-below, symmetric-above}
-use borrow.Author.Rules.{rules}
 use Rattle.reconstruct.proofs.values.symmetric.Goals as goal
 
 pub overflow_sub-size : goal.overflow_sub-size

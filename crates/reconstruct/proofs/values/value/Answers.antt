@@ -1,7 +1,5 @@
 -- The quotient of the whole numbers, and its sign.
-use native.Mathlib.Omega.{arith}
 use Rattle.reconstruct.specs.BinLaws.{Sized, value-below, value-above, whole-fits}
-use borrow.Author.Rules.{rules}
 use Rattle.reconstruct.proofs.values.value.Goals as goal
 use Rattle.reconstruct.proofs.values.value.Goals.{Start}
 

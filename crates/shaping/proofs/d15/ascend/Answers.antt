@@ -1,12 +1,9 @@
-use mathlib.Core.Path.{◌≡◌, refl}
-use mathlib.Core.List.{◌++◌}
-use Prim.Native.Nat.{◌+◌, ◌-◌, ◌*◌, ◌≤◌}
-use lib.ListN.{length, take, drop, length-set}
+use mathlib.Core.Path.{refl}
+use lib.ListN.{length-set}
 use Rattle.shaping.specs.Reach.{ascended}
 use Rattle.shaping.proofs.Descent.{ascended-head}
 use Rattle.shaping.proofs.Sweep.{sweep-turn, sweep-done}
 use native.Mathlib.Omega.{arith}
-use borrow.Author.Rules.{rules}
 use Rattle.shaping.proofs.d15.ascend.Goals as goal
 
 pub loop-i-init : goal.loop-i-init

@@ -1,13 +1,9 @@
 -- The bins before the present one have passed, and what is left passes after the last value.
-use mathlib.Core.Path.{◌≡◌, refl}
+use mathlib.Core.Path.{◌≡◌}
 use mathlib.Core.List.{◌++◌}
 use Prim.Native.Nat.{◌+◌, ◌-◌, ◌*◌, ◌≤◌}
-use lib.ListN.{length, take, drop, length-set}
+use lib.ListN.{length, take, drop}
 use Rattle.shaping.specs.Reach.{ascended}
-use Rattle.shaping.proofs.Descent.{ascended-head}
-use Rattle.shaping.proofs.Sweep.{sweep-turn, sweep-done}
-use native.Mathlib.Omega.{arith}
-use borrow.Author.Rules.{rules}
 use Rattle.shaping.proofs.d15.ascend.Given as goal
 
 abbrev pub invariant-loop-i : goal.invariant-loop-i

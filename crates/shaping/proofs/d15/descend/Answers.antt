@@ -1,10 +1,7 @@
-use mathlib.Core.Path.{◌≡◌, refl}
-use Prim.Native.Nat.{◌≤◌}
-use lib.ListN.{length, drop, length-set}
-use Rattle.shaping.specs.Reach.{next, descended}
-use Rattle.shaping.proofs.Descent.{descended_from, descent-start, descent-turn, descent-done}
+use mathlib.Core.Path.{refl}
+use lib.ListN.{length-set}
+use Rattle.shaping.proofs.Descent.{descent-start, descent-turn, descent-done}
 use native.Mathlib.Omega.{arith}
-use borrow.Author.Rules.{rules}
 use Rattle.shaping.proofs.d15.descend.Goals as goal
 
 pub loop-i-init : goal.loop-i-init

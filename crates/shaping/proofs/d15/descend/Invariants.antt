@@ -1,11 +1,9 @@
 -- The bins from the present one on have passed, and the last value stands in the first of them.
-use mathlib.Core.Path.{◌≡◌, refl}
+use mathlib.Core.Path.{◌≡◌}
 use Prim.Native.Nat.{◌≤◌}
-use lib.ListN.{length, drop, length-set}
+use lib.ListN.{length, drop}
 use Rattle.shaping.specs.Reach.{next, descended}
-use Rattle.shaping.proofs.Descent.{descended_from, descent-start, descent-turn, descent-done}
-use native.Mathlib.Omega.{arith}
-use borrow.Author.Rules.{rules}
+use Rattle.shaping.proofs.Descent.{descended_from}
 use Rattle.shaping.proofs.d15.descend.Given as goal
 
 abbrev pub invariant-loop-i : goal.invariant-loop-i

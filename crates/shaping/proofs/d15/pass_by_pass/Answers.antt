@@ -4,7 +4,6 @@ use Prim.Native.Nat.{◌-◌}
 use native.Mathlib.Omega.{arith}
 use Rattle.shaping.specs.Reach.{ascended}
 use Rattle.shaping.proofs.Descent.{descended-limited}
-use borrow.Author.Rules.{rules}
 use Rattle.shaping.proofs.d15.pass_by_pass.Goals as goal
 
 pub returns : goal.returns

@@ -2,7 +2,6 @@
 use Rattle.shaping.specs.Passes.{preprocessed}
 use borrow.Author.Tests.{le-leb, lt-leb}
 use mathlib.Core.Path.{refl}
-use borrow.Author.Rules.{rules}
 use Rattle.shaping.proofs.d15.preprocess_d15.Goals as goal
 
 pub returns-then-exp-gt256 : goal.returns-then-exp-gt256

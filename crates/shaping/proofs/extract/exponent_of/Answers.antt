@@ -2,7 +2,6 @@
 use Rattle.shaping.specs.FloatLaws.{finite_number}
 use Rattle.shaping.specs.Extract.{exponent_of}
 use native.Mathlib.Omega.{arith}
-use borrow.Author.Rules.{rules}
 use Rattle.shaping.proofs.extract.exponent_of.Goals as goal
 
 pub float_to_bits-field : goal.float_to_bits-field

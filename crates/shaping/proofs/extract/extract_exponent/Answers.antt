@@ -1,9 +1,8 @@
 -- What is not finite is refused; else the exponent.
 use mathlib.Core.Path.{sym, subst}
 use lib.Dec.{T}
-use Rattle.bits.specs.Tests.{held_false, held_true, passed, failed}
+use Rattle.bits.specs.Tests.{held_false, held_true}
 use Rattle.shaping.specs.Extract.{extracted}
-use borrow.Author.Rules.{rules}
 use Rattle.shaping.proofs.extract.extract_exponent.Goals as goal
 
 pub returns-then-not-is_finite : goal.returns-then-not-is_finite

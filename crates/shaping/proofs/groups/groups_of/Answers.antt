@@ -1,6 +1,5 @@
 -- Each branch is its formula: 85 / 256 is a third up to an end of 258.
 use native.Mathlib.Omega.{arith}
-use borrow.Author.Rules.{rules}
 use borrow.Author.Tests.{eq-eqb, ne_eqb}
 use Rattle.shaping.proofs.groups.groups_of.Goals as goal
 

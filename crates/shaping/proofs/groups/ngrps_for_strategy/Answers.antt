@@ -1,7 +1,6 @@
 -- The formula where end and span are in their range, or the refusal.
 use mathlib.Core.Path.{refl}
 use lib.Dec.{leb}
-use borrow.Author.Rules.{rules}
 use borrow.Author.Tests.{leb-true}
 use Rattle.bits.specs.Tests.{both}
 use Rattle.shaping.specs.Groups.{groups_answer}

@@ -1,6 +1,5 @@
 -- The bins four and eight away, one distance after the other.
 use native.Mathlib.Omega.{arith}
-use borrow.Author.Rules.{rules}
 use Rattle.shaping.proofs.reach.far_least.Goals as goal
 
 pub either-four-requires : goal.either-four-requires

@@ -1,11 +1,7 @@
-use mathlib.Core.Path.{◌≡◌}
-use Prim.Native.Nat.{◌-◌, ◌≤◌, ◌<◌}
-use lib.ListN.{length, take, length-set}
-use Rattle.bits.specs.Parts.{tab}
+use lib.ListN.{length-set}
 use Rattle.bits.specs.PartsLaws.{tab-start, tab-more, tab-end}
 use Rattle.shaping.specs.Reach.{topped_at, topped}
 use native.Mathlib.Omega.{arith}
-use borrow.Author.Rules.{rules}
 use Rattle.shaping.proofs.reach.hold_tops.Goals as goal
 
 pub loop-i-init : goal.loop-i-init

@@ -1,12 +1,9 @@
 -- Bin 0 first, then the others: all before the present one are held.
 use mathlib.Core.Path.{◌≡◌}
 use Prim.Native.Nat.{◌-◌, ◌≤◌, ◌<◌}
-use lib.ListN.{length, take, length-set}
+use lib.ListN.{length, take}
 use Rattle.bits.specs.Parts.{tab}
-use Rattle.bits.specs.PartsLaws.{tab-start, tab-more, tab-end}
-use Rattle.shaping.specs.Reach.{topped_at, topped}
-use native.Mathlib.Omega.{arith}
-use borrow.Author.Rules.{rules}
+use Rattle.shaping.specs.Reach.{topped_at}
 use Rattle.shaping.proofs.reach.hold_tops.Given as goal
 
 abbrev pub invariant-loop-i : goal.invariant-loop-i

@@ -1,6 +1,5 @@
 -- The bins up to three away, one distance after the other.
 use native.Mathlib.Omega.{arith}
-use borrow.Author.Rules.{rules}
 use Rattle.shaping.proofs.reach.near_least.Goals as goal
 
 pub either-one-requires : goal.either-one-requires

@@ -6,7 +6,6 @@ use Rattle.bits.specs.PartsLaws.{length-tab}
 use Rattle.shaping.specs.Reach.{near_least}
 use Rattle.shaping.proofs.Padded.{placed-padded, part-tab}
 use native.Mathlib.Omega.{arith}
-use borrow.Author.Rules.{rules}
 use Rattle.shaping.proofs.reach.pad_near.Goals as goal
 
 pub returns : goal.returns

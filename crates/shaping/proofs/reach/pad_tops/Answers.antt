@@ -5,7 +5,6 @@ use Rattle.shaping.specs.Reach.{topped}
 use Rattle.shaping.proofs.Padded.{placed-padded}
 use Rattle.shaping.proofs.Reaching.{length-topped}
 use native.Mathlib.Omega.{arith}
-use borrow.Author.Rules.{rules}
 use Rattle.shaping.proofs.reach.pad_tops.Goals as goal
 
 pub returns : goal.returns

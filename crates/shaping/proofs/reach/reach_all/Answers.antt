@@ -4,7 +4,6 @@ use Prim.Native.Nat.{◌+◌, ◌-◌}
 use lib.ListN.{length}
 use Rattle.shaping.proofs.Reaching.{tops-long, tops-most, near-length, near-most, reached-all}
 use native.Mathlib.Omega.{arith}
-use borrow.Author.Rules.{rules}
 use Rattle.shaping.proofs.reach.reach_all.Goals as goal
 
 pub pad_near-requires : goal.pad_near-requires

@@ -1,12 +1,9 @@
 -- All bins before the present one have their least.
-use mathlib.Core.Path.{◌≡◌, refl}
+use mathlib.Core.Path.{◌≡◌}
 use Prim.Native.Nat.{◌-◌, ◌≤◌}
-use lib.ListN.{length, take, length-set}
+use lib.ListN.{length, take}
 use Rattle.bits.specs.Parts.{tab}
-use Rattle.bits.specs.PartsLaws.{tab-start, tab-more, tab-end}
 use Rattle.shaping.specs.Reach.{near_least}
-use native.Mathlib.Omega.{arith}
-use borrow.Author.Rules.{rules}
 use Rattle.shaping.proofs.reach.reach_near.Given as goal
 
 abbrev pub invariant-loop-i : goal.invariant-loop-i

@@ -1,11 +1,10 @@
 -- The part that is lent is the channel's block, below its end.
-use mathlib.Core.Path.{◌≡◌, refl}
-use Prim.Native.Nat.{ℕ, ◌<◌, ◌≤◌, ◌+◌, ◌-◌, ◌*◌}
-use lib.ListN.{length, take, drop, length-take}
+use mathlib.Core.Path.{refl}
+use Prim.Native.Nat.{ℕ, ◌<◌, ◌≤◌, ◌+◌, ◌*◌}
+use lib.ListN.{length, length-take}
 use Rattle.shaping.specs.StrategyLaws.{part-inside}
 use Rattle.shaping.proofs.Costing.{picked-block, part_length}
 use native.Mathlib.Omega.{arith}
-use borrow.Author.Rules.{rules}
 use Rattle.shaping.proofs.select.block_strategy.Goals as goal
 
 -- the channel's set of the block is among those of the frame

@@ -1,10 +1,6 @@
-use mathlib.Core.Path.{◌≡◌, refl}
-use Prim.Native.Nat.{◌-◌}
-use lib.ListN.{length, drop}
-use Rattle.shaping.specs.Strategies.{ends_held}
+use mathlib.Core.Path.{refl}
 use Rattle.shaping.proofs.Costing.{ends-high, ends-turn, ends-done}
 use native.Mathlib.Omega.{arith}
-use borrow.Author.Rules.{rules}
 use Rattle.shaping.proofs.select.ends_held.Goals as goal
 
 pub loop-i-init : goal.loop-i-init

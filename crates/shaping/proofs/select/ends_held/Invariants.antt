@@ -1,11 +1,8 @@
 -- The loop looks at each end.
-use mathlib.Core.Path.{◌≡◌, refl}
+use mathlib.Core.Path.{◌≡◌}
 use Prim.Native.Nat.{◌-◌}
 use lib.ListN.{length, drop}
 use Rattle.shaping.specs.Strategies.{ends_held}
-use Rattle.shaping.proofs.Costing.{ends-high, ends-turn, ends-done}
-use native.Mathlib.Omega.{arith}
-use borrow.Author.Rules.{rules}
 use Rattle.shaping.proofs.select.ends_held.Given as goal
 
 abbrev pub invariant-loop-i : goal.invariant-loop-i

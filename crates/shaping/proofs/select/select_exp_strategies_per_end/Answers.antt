@@ -4,7 +4,6 @@ use borrow.Author.Tests.{eq-eqb, ne_eqb}
 use Rattle.bits.specs.Parts.{tab, joined}
 use Rattle.shaping.specs.Strategies.{selected}
 use Rattle.shaping.specs.StrategyLaws.{selectable}
-use borrow.Author.Rules.{rules}
 use Rattle.shaping.proofs.select.select_exp_strategies_per_end.Goals as goal
 
 pub returns-then-number-ne-ACCEPTED : goal.returns-then-number-ne-ACCEPTED

@@ -1,11 +1,8 @@
 -- The refusals in order.
-use mathlib.Core.Bool.{◌&&◌}
-use borrow.Author.Tests.{eq-eqb, ne_eqb, not-true, not-false}
-use lib.Dec.{leb}
+use borrow.Author.Tests.{eq-eqb, ne_eqb}
 use lib.ListN.{length}
 use Rattle.shaping.specs.StrategyLaws.{few-ends}
 use native.Mathlib.Omega.{arith}
-use borrow.Author.Rules.{rules}
 use Rattle.shaping.proofs.select.select_refusal.Goals as goal
 
 pub returns-then-not-ends-ends_held : goal.returns-then-not-ends-ends_held

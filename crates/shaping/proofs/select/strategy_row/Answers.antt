@@ -1,6 +1,5 @@
 -- Picked in blocks 0 and 3, reuse elsewhere.
 use Rattle.shaping.proofs.Costing.{row-there, row-none}
-use borrow.Author.Rules.{rules}
 use Rattle.shaping.proofs.select.strategy_row.Goals as goal
 
 pub returns-then-channel-ends : goal.returns-then-channel-ends

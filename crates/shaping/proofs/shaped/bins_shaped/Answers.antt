@@ -1,12 +1,8 @@
-use mathlib.Core.Path.{◌≡◌}
-use mathlib.Core.Bool.{true, ◌&&◌}
-use Prim.Native.Nat.{◌+◌, ◌-◌, ◌%◌, ◌≤◌}
-use lib.ListN.{drop, get_or}
+use Prim.Native.Nat.{◌+◌, ◌-◌, ◌%◌}
+use lib.ListN.{get_or}
 use borrow.Author.Tests.{leb-true}
-use Rattle.shaping.specs.Shaped.{follows, shaped_for}
 use Rattle.shaping.proofs.Checking.{left, check-none, check-start, turn, turn-most, done}
 use native.Mathlib.Omega.{arith}
-use borrow.Author.Rules.{rules}
 use Rattle.shaping.proofs.shaped.bins_shaped.Goals as goal
 
 pub returns-then-n-eq0 : goal.returns-then-n-eq0

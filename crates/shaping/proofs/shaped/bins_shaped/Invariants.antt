@@ -1,13 +1,10 @@
 -- What was found of the bins before bin i, and that those from bin i on follow the rule, is what the whole test says.
 use mathlib.Core.Path.{◌≡◌}
 use mathlib.Core.Bool.{true, ◌&&◌}
-use Prim.Native.Nat.{◌+◌, ◌-◌, ◌%◌, ◌≤◌}
+use Prim.Native.Nat.{◌-◌, ◌%◌, ◌≤◌}
 use lib.ListN.{drop, get_or}
-use borrow.Author.Tests.{leb-true}
 use Rattle.shaping.specs.Shaped.{follows, shaped_for}
-use Rattle.shaping.proofs.Checking.{left, check-none, check-start, turn, turn-most, done}
-use native.Mathlib.Omega.{arith}
-use borrow.Author.Rules.{rules}
+use Rattle.shaping.proofs.Checking.{left}
 use Rattle.shaping.proofs.shaped.bins_shaped.Given as goal
 
 abbrev pub invariant-loop-i : goal.invariant-loop-i

@@ -1,5 +1,4 @@
 -- Each call is of the span that was asked for.
-use borrow.Author.Rules.{rules}
 use Rattle.shaping.proofs.shaped.is_shaped.Goals as goal
 
 pub returns-then-grpsize-eq1 : goal.returns-then-grpsize-eq1

@@ -1,6 +1,5 @@
 -- The code's three tests say what the contract does.
 use Rattle.shaping.proofs.Checking.{follow-is}
-use borrow.Author.Rules.{rules}
 use Rattle.shaping.proofs.shaped.may_follow.Goals as goal
 
 pub returns : goal.returns

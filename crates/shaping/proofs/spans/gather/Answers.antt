@@ -1,5 +1,4 @@
 -- Each call is of the span that was asked for.
-use borrow.Author.Rules.{rules}
 use Rattle.shaping.proofs.spans.gather.Goals as goal
 
 pub returns-then-h-eq1 : goal.returns-then-h-eq1

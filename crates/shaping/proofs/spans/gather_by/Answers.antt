@@ -1,11 +1,6 @@
-use mathlib.Core.Path.{◌≡◌}
-use mathlib.Core.List.{◌++◌}
-use Prim.Native.Nat.{◌-◌, ◌≤◌}
-use lib.ListN.{length, take, drop, length-set}
-use Rattle.shaping.specs.Spans.{leasts, span_leasts}
+use lib.ListN.{length-set}
 use Rattle.shaping.proofs.Sharing.{gather-start, gather-turn, gather-done}
 use native.Mathlib.Omega.{arith}
-use borrow.Author.Rules.{rules}
 use Rattle.shaping.proofs.spans.gather_by.Goals as goal
 
 pub loop-i-init : goal.loop-i-init

@@ -2,11 +2,8 @@
 use mathlib.Core.Path.{◌≡◌}
 use mathlib.Core.List.{◌++◌}
 use Prim.Native.Nat.{◌-◌, ◌≤◌}
-use lib.ListN.{length, take, drop, length-set}
+use lib.ListN.{length, take, drop}
 use Rattle.shaping.specs.Spans.{leasts, span_leasts}
-use Rattle.shaping.proofs.Sharing.{gather-start, gather-turn, gather-done}
-use native.Mathlib.Omega.{arith}
-use borrow.Author.Rules.{rules}
 use Rattle.shaping.proofs.spans.gather_by.Given as goal
 
 abbrev pub invariant-loop-i : goal.invariant-loop-i

@@ -1,10 +1,6 @@
-use mathlib.Core.Path.{◌≡◌, refl}
-use Prim.Native.Nat.{◌≤◌, ◌+◌}
+use mathlib.Core.Path.{refl}
 use native.Mathlib.Omega.{arith}
-use lib.ListN.{length, drop, get_or}
-use Rattle.shaping.specs.Spans.{least}
 use Rattle.shaping.proofs.Sweep.{least_more, least-end, least-none}
-use borrow.Author.Rules.{rules}
 use Rattle.shaping.proofs.spans.least_from.Goals as goal
 
 pub loop-j-init : goal.loop-j-init

@@ -1,11 +1,8 @@
 -- The loop finds the least of the span.
-use mathlib.Core.Path.{◌≡◌, refl}
+use mathlib.Core.Path.{◌≡◌}
 use Prim.Native.Nat.{◌≤◌, ◌+◌}
-use native.Mathlib.Omega.{arith}
 use lib.ListN.{length, drop, get_or}
 use Rattle.shaping.specs.Spans.{least}
-use Rattle.shaping.proofs.Sweep.{least_more, least-end, least-none}
-use borrow.Author.Rules.{rules}
 use Rattle.shaping.proofs.spans.least_from.Given as goal
 
 abbrev pub invariant-loop-j : goal.invariant-loop-j

@@ -2,10 +2,9 @@
 use Rattle.shaping.specs.GroupsLaws.{span-bounds}
 use Rattle.shaping.specs.Passes.{quantised}
 use borrow.Author.Tests.{le-leb, lt-leb}
-use Rattle.bits.specs.Tests.{held_false, held_true, passed, failed}
+use Rattle.bits.specs.Tests.{held_false, held_true}
 use mathlib.Core.Path.{refl}
 use native.Mathlib.Omega.{arith}
-use borrow.Author.Rules.{rules}
 use Rattle.shaping.proofs.spans.quantise_exponents_to_grpsize.Goals as goal
 
 pub returns-then-not-is_span : goal.returns-then-not-is_span

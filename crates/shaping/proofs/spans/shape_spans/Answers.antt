@@ -1,6 +1,5 @@
 -- The values are shaped, then spread.
 use native.Mathlib.Omega.{arith}
-use borrow.Author.Rules.{rules}
 use Rattle.shaping.proofs.spans.shape_spans.Goals as goal
 
 pub spread_out-requires : goal.spread_out-requires

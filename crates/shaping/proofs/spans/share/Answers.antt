@@ -1,7 +1,6 @@
 -- The values are the least of each span; shaped and spread, they are `shared`.
 use Rattle.shaping.proofs.Sharing.{values-part, values-fit, shared-all}
 use native.Mathlib.Omega.{arith}
-use borrow.Author.Rules.{rules}
 use Rattle.shaping.proofs.spans.share.Goals as goal
 
 pub shape_spans-requires : goal.shape_spans-requires

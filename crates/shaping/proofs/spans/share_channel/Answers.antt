@@ -1,7 +1,6 @@
 -- A channel's exponents shared by spans are `spanned`.
 use Rattle.shaping.proofs.Sharing.{spanned-one, spanned-alone, spanned-more}
 use native.Mathlib.Omega.{arith}
-use borrow.Author.Rules.{rules}
 use Rattle.shaping.proofs.spans.share_channel.Goals as goal
 
 pub returns-then-h-eq0 : goal.returns-then-h-eq0

@@ -1,11 +1,8 @@
-use mathlib.Core.Path.{◌≡◌, refl, ◌∙◌}
-use Prim.Native.Nat.{◌-◌, ◌≤◌}
-use lib.ListN.{length, take, length-set}
-use Rattle.bits.specs.Parts.{tab}
+use mathlib.Core.Path.{refl, ◌∙◌}
+use lib.ListN.{length, length-set}
 use Rattle.bits.specs.PartsLaws.{tab-start, tab-more, tab-end}
 use Rattle.shaping.proofs.Sharing.{value_at, value_there, spread-is}
 use native.Mathlib.Omega.{arith}
-use borrow.Author.Rules.{rules}
 use Rattle.shaping.proofs.spans.spread_by.Goals as goal
 
 pub loop-i-init : goal.loop-i-init

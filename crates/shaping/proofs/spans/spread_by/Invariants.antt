@@ -1,12 +1,9 @@
 -- The bins before the present one hold the values of their spans.
-use mathlib.Core.Path.{◌≡◌, refl, ◌∙◌}
+use mathlib.Core.Path.{◌≡◌}
 use Prim.Native.Nat.{◌-◌, ◌≤◌}
-use lib.ListN.{length, take, length-set}
+use lib.ListN.{length, take}
 use Rattle.bits.specs.Parts.{tab}
-use Rattle.bits.specs.PartsLaws.{tab-start, tab-more, tab-end}
-use Rattle.shaping.proofs.Sharing.{value_at, value_there, spread-is}
-use native.Mathlib.Omega.{arith}
-use borrow.Author.Rules.{rules}
+use Rattle.shaping.proofs.Sharing.{value_at}
 use Rattle.shaping.proofs.spans.spread_by.Given as goal
 
 abbrev pub invariant-loop-i : goal.invariant-loop-i

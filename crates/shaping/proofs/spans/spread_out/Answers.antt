@@ -1,6 +1,5 @@
 -- Each call is of the span that was asked for.
 use native.Mathlib.Omega.{arith}
-use borrow.Author.Rules.{rules}
 use Rattle.shaping.proofs.spans.spread_out.Goals as goal
 
 pub spread_by-requires : goal.spread_by-requires

@@ -1,12 +1,9 @@
-use mathlib.Core.Path.{◌≡◌, ◌∙◌}
-use Prim.Native.Nat.{◌≤◌, ◌+◌, ◌-◌, ◌*◌}
+use mathlib.Core.Path.{◌∙◌}
 use native.Mathlib.Numerals.{add-one}
-use lib.ListN.{drop}
 use Rattle.shaping.specs.Strategies.{cost}
 use Rattle.shaping.proofs.Sweep.{merged-head, merged-same}
-use Rattle.shaping.proofs.Costing.{left, cost-turn, cost-done}
+use Rattle.shaping.proofs.Costing.{cost-turn, cost-done}
 use native.Mathlib.Omega.{arith}
-use borrow.Author.Rules.{rules}
 use Rattle.shaping.proofs.strategies.cost_of.Goals as goal
 use Rattle.shaping.proofs.strategies.cost_of.Goals.{then-j-eq0, else-j-eq0}
 

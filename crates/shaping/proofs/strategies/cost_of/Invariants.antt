@@ -1,14 +1,9 @@
 -- The loop adds what each bin loses.
-use mathlib.Core.Path.{◌≡◌, ◌∙◌}
-use mathlib.Core.Logic.{⊎_elim}
+use mathlib.Core.Path.{◌≡◌}
 use Prim.Native.Nat.{◌≤◌, ◌+◌, ◌-◌, ◌*◌}
-use native.Mathlib.Numerals.{add-one}
 use lib.ListN.{drop}
 use Rattle.shaping.specs.Strategies.{cost}
-use Rattle.shaping.proofs.Sweep.{merged-head, merged-same}
-use Rattle.shaping.proofs.Costing.{left, cost-turn, cost-done}
-use native.Mathlib.Omega.{arith}
-use borrow.Author.Rules.{rules}
+use Rattle.shaping.proofs.Costing.{left}
 use Rattle.shaping.proofs.strategies.cost_of.Given as goal
 
 abbrev pub invariant-loop-i : goal.invariant-loop-i

@@ -2,7 +2,6 @@
 use Rattle.shaping.proofs.Costing.{picked-front}
 use borrow.Author.Tests.{le-leb, lt-leb}
 use Rattle.shaping.specs.Strategies.{pick_answer}
-use borrow.Author.Rules.{rules}
 use Rattle.shaping.proofs.strategies.pick_strategy_for_block.Goals as goal
 
 pub returns-then-end-gt256 : goal.returns-then-end-gt256

@@ -1,7 +1,6 @@
 -- The chain of thresholds is `picked`.
 use borrow.Author.Tests.{le-leb, lt-leb}
 use Rattle.shaping.specs.Strategies.{picked}
-use borrow.Author.Rules.{rules}
 use Rattle.shaping.proofs.strategies.strategy_of.Goals as goal
 
 pub returns-then-n-le1 : goal.returns-then-n-le1

@@ -8,7 +8,6 @@ use borrow.Author.Tests.{eqb-true, eqb-false}
 use Rattle.bits.specs.Refusal as refusal
 use Rattle.sheet.specs.Sheet.{check_of, check_beside}
 use Rattle.sheet.proofs.CauseLaws.{beside-structure, beside-out-of-range}
-use borrow.Author.Rules.{rules}
 use Rattle.sheet.proofs.check.check_beside.Goals as goal
 
 module _ (s : List ℕ) (number : ℕ) (is : number ≡ check_of s) where

@@ -1,8 +1,7 @@
 -- The answer is that of the first test that fails, in the order of the refusals.
 use borrow.Author.Tests.{eq-eqb, ne_eqb}
-use Rattle.bits.specs.Tests.{held_false, held_true, passed, failed}
+use Rattle.bits.specs.Tests.{held_false, held_true}
 use mathlib.Core.Path.{sym, ◌∙◌}
-use borrow.Author.Rules.{rules}
 use Rattle.sheet.proofs.check.check_sheet.Goals as goal
 
 pub returns-then-not-length_matches : goal.returns-then-not-length_matches

@@ -1,13 +1,8 @@
-use mathlib.Core.Path.{◌≡◌, sym, ◌∙◌}
-use mathlib.Core.Bool.{◌&&◌}
-use Prim.Native.Nat.{◌-◌}
-use lib.ListN.{length}
-use Rattle.sheet.specs.Grammar.{records_from, records_of}
-use Rattle.sheet.specs.Order.{in_order}
-use Rattle.sheet.specs.OrderLaws.{ascending_from, ascending-from}
+use mathlib.Core.Path.{sym, ◌∙◌}
+use Rattle.sheet.specs.Grammar.{records_of}
+use Rattle.sheet.specs.OrderLaws.{ascending-from}
 use Rattle.sheet.proofs.Counting.{order-step, order-done, records-end}
 use native.Mathlib.Omega.{arith}
-use borrow.Author.Rules.{rules}
 use Rattle.sheet.proofs.check.in_order.Goals as goal
 
 pub loop-at-init : goal.loop-at-init

@@ -1,14 +1,11 @@
 -- What is tested, and what is left to test from the next channel on, make up the test of all records.
-use mathlib.Core.Path.{◌≡◌, sym, ◌∙◌}
+use mathlib.Core.Path.{◌≡◌}
 use mathlib.Core.Bool.{◌&&◌}
 use Prim.Native.Nat.{◌-◌}
 use lib.ListN.{length}
-use Rattle.sheet.specs.Grammar.{records_from, records_of}
+use Rattle.sheet.specs.Grammar.{records_from}
 use Rattle.sheet.specs.Order.{in_order}
-use Rattle.sheet.specs.OrderLaws.{ascending_from, ascending-from}
-use Rattle.sheet.proofs.Counting.{order-step, order-done, records-end}
-use native.Mathlib.Omega.{arith}
-use borrow.Author.Rules.{rules}
+use Rattle.sheet.specs.OrderLaws.{ascending_from}
 use Rattle.sheet.proofs.check.in_order.Given as goal
 
 abbrev pub invariant-loop-at : goal.invariant-loop-at

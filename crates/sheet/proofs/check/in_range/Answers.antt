@@ -3,7 +3,6 @@ use mathlib.Core.Path.{◌≡◌, sym, ap, ◌∙◌}
 use mathlib.Core.Bool.{Bool, true, false, ◌&&◌}
 use Rattle.sheet.specs.Common.{common_of, common_in_range}
 use Rattle.sheet.specs.Ranges.{records_in_range}
-use borrow.Author.Rules.{rules}
 use Rattle.sheet.proofs.check.in_range.Goals as goal
 
 pub returns-then-common_in_range : goal.returns-then-common_in_range

@@ -1,5 +1,4 @@
 -- Both tests on the length.
-use borrow.Author.Rules.{rules}
 use Rattle.sheet.proofs.check.length_matches.Goals as goal
 
 pub returns : goal.returns

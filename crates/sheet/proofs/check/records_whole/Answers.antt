@@ -1,11 +1,7 @@
-use mathlib.Core.Path.{◌≡◌, refl, ◌∙◌}
-use mathlib.Core.Bool.{◌&&◌}
-use Prim.Native.Nat.{◌-◌}
-use lib.ListN.{length}
-use Rattle.sheet.specs.Grammar.{every, is_whole, records_from, records_of}
+use mathlib.Core.Path.{refl, ◌∙◌}
+use Rattle.sheet.specs.Grammar.{is_whole}
 use Rattle.sheet.proofs.Counting.{every-step, every-done, records-end}
 use native.Mathlib.Omega.{arith}
-use borrow.Author.Rules.{rules}
 use Rattle.sheet.proofs.check.records_whole.Goals as goal
 
 pub loop-at-init : goal.loop-at-init

@@ -1,12 +1,9 @@
 -- What is tested, and what is left to test, make up the test of all records.
-use mathlib.Core.Path.{◌≡◌, refl, ◌∙◌}
+use mathlib.Core.Path.{◌≡◌}
 use mathlib.Core.Bool.{◌&&◌}
 use Prim.Native.Nat.{◌-◌}
 use lib.ListN.{length}
 use Rattle.sheet.specs.Grammar.{every, is_whole, records_from, records_of}
-use Rattle.sheet.proofs.Counting.{every-step, every-done, records-end}
-use native.Mathlib.Omega.{arith}
-use borrow.Author.Rules.{rules}
 use Rattle.sheet.proofs.check.records_whole.Given as goal
 
 abbrev pub invariant-loop-at : goal.invariant-loop-at

@@ -1,10 +1,7 @@
 -- All channels below the present one have one record.
 use mathlib.Core.Path.{◌≡◌}
 use Prim.Native.Nat.{◌-◌, ◌≤◌}
-use native.Mathlib.Numerals.{add-one}
 use Rattle.sheet.specs.Ranges.{all_below, once}
-use native.Mathlib.Omega.{arith}
-use borrow.Author.Rules.{rules}
 use Rattle.sheet.proofs.ranges.each_once.Given as goal
 
 abbrev pub invariant-loop-channel : goal.invariant-loop-channel

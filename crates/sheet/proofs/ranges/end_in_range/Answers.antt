@@ -1,5 +1,4 @@
 -- The rule of the LFE, or that of the other channels.
-use borrow.Author.Rules.{rules}
 use Rattle.sheet.proofs.ranges.end_in_range.Goals as goal
 
 pub returns : goal.returns

@@ -1,6 +1,5 @@
 -- An end below 37 is refused; from there on the other two tests decide.
 use borrow.Author.Tests.{lt-leb, le-leb}
-use borrow.Author.Rules.{rules}
 use Rattle.sheet.proofs.ranges.full_end.Goals as goal
 
 pub returns-then-end-lt37 : goal.returns-then-end-lt37

@@ -1,5 +1,4 @@
 -- The end of the LFE, or one of the others.
-use borrow.Author.Rules.{rules}
 use Rattle.sheet.proofs.ranges.legal_end.Goals as goal
 
 pub returns : goal.returns

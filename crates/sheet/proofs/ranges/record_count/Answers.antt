@@ -1,7 +1,5 @@
-use mathlib.Core.Path.{◌≡◌, ap, ◌∙◌}
-use Prim.Native.Nat.{◌+◌, ◌-◌, ◌≤◌}
+use mathlib.Core.Path.{ap, ◌∙◌}
 use lib.ListN.{length}
-use Rattle.sheet.specs.Grammar.{records_from, records_of}
 use Rattle.sheet.specs.Ranges.{of_channel}
 use Rattle.sheet.proofs.Counting.{count-step, records-end}
 use native.Mathlib.Omega.{arith}

@@ -1,12 +1,9 @@
 -- The records counted, and those still to come, are all records of the channel.
-use mathlib.Core.Path.{◌≡◌, ap, ◌∙◌}
+use mathlib.Core.Path.{◌≡◌}
 use Prim.Native.Nat.{◌+◌, ◌-◌, ◌≤◌}
 use lib.ListN.{length}
 use Rattle.sheet.specs.Grammar.{records_from, records_of}
 use Rattle.sheet.specs.Ranges.{of_channel}
-use Rattle.sheet.proofs.Counting.{count-step, records-end}
-use native.Mathlib.Omega.{arith}
-use borrow.Author.Rules.{rules}
 use Rattle.sheet.proofs.ranges.record_count.Given as goal
 
 abbrev pub invariant-loop-at : goal.invariant-loop-at

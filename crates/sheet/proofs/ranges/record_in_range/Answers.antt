@@ -1,5 +1,4 @@
 -- The seven tests of a record.
-use borrow.Author.Rules.{rules}
 use Rattle.sheet.proofs.ranges.record_in_range.Goals as goal
 
 pub returns : goal.returns

@@ -1,13 +1,9 @@
-use mathlib.Core.Path.{◌≡◌, refl, ◌∙◌}
-use mathlib.Core.Bool.{true, ◌&&◌}
-use Prim.Native.Nat.{◌-◌}
-use lib.ListN.{length}
+use mathlib.Core.Path.{refl, ◌∙◌}
 use borrow.Author.Tests.{eqb-true}
-use Rattle.sheet.specs.Grammar.{every, is_whole, records_from, records_of}
+use Rattle.sheet.specs.Grammar.{is_whole}
 use Rattle.sheet.specs.Ranges.{record_in_range}
 use Rattle.sheet.proofs.Counting.{every-step, every-done, every-parts, records-end}
 use native.Mathlib.Omega.{arith}
-use borrow.Author.Rules.{rules}
 use Rattle.sheet.proofs.ranges.records_in_range.Goals as goal
 
 pub loop-at-init : goal.loop-at-init

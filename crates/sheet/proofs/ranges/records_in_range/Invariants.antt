@@ -1,14 +1,10 @@
 -- What is tested, and what is left to test, make up the test of all records; each is whole.
-use mathlib.Core.Path.{◌≡◌, refl, ◌∙◌}
+use mathlib.Core.Path.{◌≡◌}
 use mathlib.Core.Bool.{true, ◌&&◌}
 use Prim.Native.Nat.{◌-◌}
 use lib.ListN.{length}
-use borrow.Author.Tests.{eqb-true}
 use Rattle.sheet.specs.Grammar.{every, is_whole, records_from, records_of}
 use Rattle.sheet.specs.Ranges.{record_in_range}
-use Rattle.sheet.proofs.Counting.{every-step, every-done, every-parts, records-end}
-use native.Mathlib.Omega.{arith}
-use borrow.Author.Rules.{rules}
 use Rattle.sheet.proofs.ranges.records_in_range.Given as goal
 
 abbrev pub invariant-loop-at : goal.invariant-loop-at

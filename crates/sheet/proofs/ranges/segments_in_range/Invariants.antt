@@ -1,10 +1,7 @@
 -- All segments before the present one are in their ranges.
 use mathlib.Core.Path.{◌≡◌}
 use Prim.Native.Nat.{◌-◌, ◌≤◌}
-use native.Mathlib.Numerals.{add-one}
 use Rattle.sheet.specs.Ranges.{all_below, segment_in_range}
-use native.Mathlib.Omega.{arith}
-use borrow.Author.Rules.{rules}
 use Rattle.sheet.proofs.ranges.segments_in_range.Given as goal
 
 abbrev pub invariant-loop-i : goal.invariant-loop-i

@@ -1,5 +1,4 @@
 -- The six strategies, and that block 0 is not reuse.
-use borrow.Author.Rules.{rules}
 use Rattle.sheet.proofs.ranges.strategies_in_range.Goals as goal
 
 pub returns : goal.returns

@@ -1,7 +1,6 @@
 -- Past the end the byte is 0.
 use mathlib.Core.Path.{sym}
 use lib.ListN.{get_or-eq_default}
-use borrow.Author.Rules.{rules}
 use Rattle.sheet.proofs.read.byte_at.Goals as goal
 
 pub returns-else-i-bytes : goal.returns-else-i-bytes

@@ -1,6 +1,5 @@
 -- The record is whole or cut short.
 use Rattle.sheet.proofs.Counting.{ends-whole, ends-cut}
-use borrow.Author.Rules.{rules}
 use Rattle.sheet.proofs.read.record_end.Goals as goal
 
 pub returns-then-size-sheet : goal.returns-then-size-sheet

@@ -1,5 +1,4 @@
 -- The set of the strategy that stands at the place of the block.
-use borrow.Author.Rules.{rules}
 use Rattle.sheet.proofs.record.block_at.Goals as goal
 
 pub returns : goal.returns

@@ -1,5 +1,4 @@
 -- Each value is the byte at its place.
-use borrow.Author.Rules.{rules}
 use Rattle.sheet.proofs.record.channel_record.Goals as goal
 
 pub returns : goal.returns

@@ -1,6 +1,5 @@
 -- The values stand three bytes apart.
 use native.Mathlib.Nat.{add-zero}
-use borrow.Author.Rules.{rules}
 use Rattle.sheet.proofs.record.column.Goals as goal
 
 pub returns : goal.returns

@@ -1,12 +1,9 @@
-use mathlib.Core.Path.{◌≡◌, refl, ap, sym, ◌∙◌}
+use mathlib.Core.Path.{refl, ap, sym, ◌∙◌}
 use mathlib.Core.List.{List, []}
-use Prim.Native.Nat.{ℕ, ◌-◌}
-use lib.ListN.{length, get_or}
-use Rattle.sheet.specs.Grammar.{records_from}
-use Rattle.sheet.specs.Record.{record_bytes}
+use Prim.Native.Nat.{ℕ}
+use lib.ListN.{get_or}
 use Rattle.sheet.proofs.Counting.{found_here, found-later, records-end}
 use native.Mathlib.Omega.{arith}
-use borrow.Author.Rules.{rules}
 use Rattle.sheet.proofs.record.record_bytes.Goals as goal
 
 pub loop-at-init : goal.loop-at-init

@@ -1,13 +1,10 @@
 -- The record of the channel is among those still to come, as many places on as are left, or it is the one that is returned.
-use mathlib.Core.Path.{◌≡◌, refl, ap, sym, ◌∙◌}
-use mathlib.Core.List.{List, []}
-use Prim.Native.Nat.{ℕ, ◌-◌}
+use mathlib.Core.Path.{◌≡◌}
+use mathlib.Core.List.{[]}
+use Prim.Native.Nat.{◌-◌}
 use lib.ListN.{length, get_or}
 use Rattle.sheet.specs.Grammar.{records_from}
 use Rattle.sheet.specs.Record.{record_bytes}
-use Rattle.sheet.proofs.Counting.{found_here, found-later, records-end}
-use native.Mathlib.Omega.{arith}
-use borrow.Author.Rules.{rules}
 use Rattle.sheet.proofs.record.record_bytes.Given as goal
 
 abbrev pub invariant-loop-at : goal.invariant-loop-at

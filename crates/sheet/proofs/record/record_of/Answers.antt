@@ -1,5 +1,4 @@
 -- The bytes of the record, then the record by value.
-use borrow.Author.Rules.{rules}
 use Rattle.sheet.proofs.record.record_of.Goals as goal
 
 pub returns : goal.returns

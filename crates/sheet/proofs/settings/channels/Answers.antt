@@ -1,5 +1,4 @@
 -- Those that have a record.
-use borrow.Author.Rules.{rules}
 use Rattle.sheet.specs.Settings.{channels}
 use Rattle.sheet.proofs.SettingsLaws.{channels-bounds}
 use Rattle.sheet.proofs.settings.channels.Goals as goal

@@ -1,6 +1,5 @@
 -- The end that the record at the channel's place holds.
 use native.Mathlib.Omega.{arith}
-use borrow.Author.Rules.{rules}
 use Rattle.sheet.proofs.SettingsLaws.{channels-bounds, end-held}
 use Rattle.sheet.proofs.settings.end_at.Goals as goal
 

@@ -1,6 +1,5 @@
 -- The record at the channel's place.
 use mathlib.Core.Path.{refl}
-use borrow.Author.Rules.{rules}
 use Rattle.sheet.specs.Settings.{record_at}
 use Rattle.sheet.proofs.settings.record_at.Goals as goal
 

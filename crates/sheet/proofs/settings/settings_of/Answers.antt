@@ -1,5 +1,4 @@
 -- The records as they stand.
-use borrow.Author.Rules.{rules}
 use Rattle.sheet.proofs.SettingsLaws.{settings-as-they-stand}
 use Rattle.sheet.proofs.settings.settings_of.Goals as goal
 

@@ -1,5 +1,4 @@
 -- The blocks of the six records.
-use borrow.Author.Rules.{rules}
 use Rattle.sheet.specs.Settings.{strategies_of}
 use Rattle.sheet.proofs.settings.strategies_of.Goals as goal
 

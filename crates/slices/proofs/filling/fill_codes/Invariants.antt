@@ -1,11 +1,8 @@
 -- After i turns the first i entries are v and the others as they were.
-use mathlib.Core.Path.{◌≡◌, refl}
+use mathlib.Core.Path.{◌≡◌}
 use mathlib.Core.List.{◌++◌}
 use Prim.Native.Nat.{◌≤◌, ◌-◌}
-use lib.ListN.{length, drop, replicate, length-set}
-use Rattle.slices.proofs.Entries.{fill-turn, fill_end}
-use native.Mathlib.Omega.{arith}
-use borrow.Author.Rules.{rules}
+use lib.ListN.{length, drop, replicate}
 use Rattle.slices.proofs.filling.fill_codes.Given as goal
 
 abbrev pub invariant-loop-i : goal.invariant-loop-i

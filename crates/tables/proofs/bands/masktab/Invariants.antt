@@ -1,11 +1,7 @@
 -- No band before the present one holds the bin, so it starts at the bin or before it; behind the last band the bin is 253 or more.
-use mathlib.Core.Path.{◌≡◌, sym}
-use Prim.Native.Nat.{ℕ, ◌+◌, ◌-◌, ◌≤◌, ◌<◌}
-use native.Mathlib.Omega.{arith}
-use borrow.Author.Rules.{rules}
+use Prim.Native.Nat.{ℕ, ◌-◌, ◌≤◌, ◌<◌}
 use Rattle.tables.specs.Entry.{entry}
-use Rattle.tables.specs.Bands.{bndtab, bndsz}
-use Rattle.tables.proofs.Rules.{masktab-only, masktab-past, bndtab-first, bndtab-next, bndtab-last}
+use Rattle.tables.specs.Bands.{bndtab}
 use Rattle.tables.proofs.bands.masktab.Given as goal
 
 abbrev pub Reached : ℕ → ℕ → Type 0

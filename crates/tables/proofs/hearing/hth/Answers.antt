@@ -1,5 +1,4 @@
 -- The entry of the rate's row.
-use borrow.Author.Rules.{rules}
 use Rattle.tables.specs.EntryLaws.{entry-lent}
 use Rattle.tables.proofs.hearing.hth.Goals as goal
 

@@ -1,7 +1,6 @@
 -- Below 210 the element read is the table's entry, from there on every entry is 0.
 use mathlib.Core.Path.{sym}
 use native.Mathlib.Omega.{arith}
-use borrow.Author.Rules.{rules}
 use Rattle.tables.specs.Entry.{entry}
 use Rattle.tables.specs.EntryLaws.{entry-take}
 use Rattle.tables.specs.Masking.{latab}

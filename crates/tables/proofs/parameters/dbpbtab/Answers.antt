@@ -1,6 +1,5 @@
 -- The element read is the table's entry, by computation at any index.
 use mathlib.Core.Path.{refl}
-use borrow.Author.Rules.{rules}
 use Rattle.tables.specs.Entry.{entry}
 use Rattle.tables.specs.Parameters.{dbpbtab}
 use Rattle.tables.proofs.parameters.dbpbtab.Goals as goal

@@ -2,7 +2,6 @@
 use mathlib.Core.Path.{◌≡◌}
 use Prim.Native.Nat.{ℕ, ◌<◌}
 use native.Mathlib.Omega.{arith}
-use borrow.Author.Rules.{rules}
 use lib.Ieee.{nan, round, of_bits}
 use lib.ListN.{get_or}
 use Rattle.tables.specs.Quantizer.{level_count, level, levels}
