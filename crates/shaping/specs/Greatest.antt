@@ -1,4 +1,4 @@
--- Shaped, as a type: `shaped_for` of Shaped.antt holds exactly there (`shaped-yes`, `Shaped-of` in ShapedLaws.antt). And "the pointwise greatest
+-- Shaped, as a type: `shaped_for` of Shaped.antt holds exactly there (`shaped-yes`, `shaped_of` in ShapedLaws.antt). And "the pointwise greatest
 -- sequence not above the input" that is shaped (document 01, "Exponents").
 use Rattle.std.specs.Prelude.{◌≡◌, List, [], ◌∷◌, ℕ, zero, suc, ◌+◌, ◌≤◌}
 
