@@ -1,4 +1,4 @@
-/* The AC-3 encoder core for C and C++: the entries of crate `host`, which `rt staticlib host` builds as
+/* The AC-3 encoder core for C and C++: the entries of crate `host`, which `scripts/archive` builds as
  * target/staticlib/libhost.a (x86-64). bindings/c/example.c uses it; scripts/run-examples builds and runs that.
  *
  * ANSWERS. Every entry takes every input and answers 0 (AC3_ACCEPTED) or the number of a refusal (enum ac3_refusal).

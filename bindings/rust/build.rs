@@ -1,4 +1,4 @@
-//! Links the archive that `rt staticlib host` writes: the one that AC3_ARCHIVE names by its absolute path, else the
+//! Links the archive that `scripts/archive` makes: the one that AC3_ARCHIVE names by its absolute path, else the
 //! repository's.
 use std::path::PathBuf;
 use std::{env, process};
@@ -13,7 +13,7 @@ fn main() {
     println!("cargo:rerun-if-changed={}", archive.display());
     if !archive.is_file() {
         eprintln!("The archive of the AC-3 encoder core is missing: {}", archive.display());
-        eprintln!("`rt staticlib host`, in the repository's folder, makes it: target/staticlib/libhost.a.");
+        eprintln!("`scripts/archive`, in the repository's folder, makes it: target/staticlib/libhost.a.");
         eprintln!("Where it stands elsewhere, AC3_ARCHIVE names the file by its absolute path.");
         process::exit(1);
     }

@@ -58,7 +58,7 @@
 //!
 //! # Linking
 //!
-//! The build script links `libhost.a`, which `rt staticlib host` writes to the repository's target/staticlib (x86-64).
+//! The build script links `libhost.a`, which `scripts/archive` writes to the repository's target/staticlib (x86-64).
 //! `AC3_ARCHIVE` names it where it stands elsewhere.
 
 #![warn(missing_docs)]
