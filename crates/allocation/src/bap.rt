@@ -15,6 +15,7 @@ use masking::{less, masking_curve};
 
 // Where a bin with exponent 0 of a band stands in the window. The mask less the offset and the floor, `lower`, is held to 0 before 0x1fe0 is applied;
 // `top` is the address where nothing is left of it.
+#[tactic(auto, unfolding(crate::specs::Held::base_of, masking::specs::Held::held_curve))]
 fn band_base(
     dbknee: u16,
     lower: u16,

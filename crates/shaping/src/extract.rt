@@ -6,6 +6,7 @@ ghost use Rattle.shaping.specs.Extract.{exponent_of, extracted};
 use crate::finite::is_finite;
 
 // The exponent of a finite coefficient.
+#[tactic(auto, unfolding(crate::specs::Extract::exponent_of))]
 pub fn exponent_of(x: f32) -> u8
     requires { T (finite x) }
     ensures { result ≡ exponent_of x }

@@ -35,6 +35,7 @@ fn cost_of(exp: &[u8], h: usize) -> u32
 }
 
 // The strategy of the exponents below end.
+#[tactic(auto, unfolding(crate::specs::Strategies::picked))]
 pub fn strategy_of(exp: &[u8]) -> u8
     requires { length exp.now ≤ 256 }
     ensures { result ≡ picked exp.now }
