@@ -126,10 +126,10 @@ fn numbers_are_those_of_the_proved_source() {
     let header = text("bindings/c/ac3core.h");
     for &refusal in Refusal::ALL {
         let (name, number) = (constant(refusal), refusal.number());
-        assert!(source.contains(&format!("pub const {name}: u32 = {number};")), "{name} in crates/bits/src/refusal.rt");
+        assert!(source.contains(&format!("Refusal::{refusal:?} => {number},")), "{refusal:?} in crates/bits/src/refusal.rt");
         assert!(header.contains(&format!("    AC3_{name} = {number}")), "{name} in bindings/c/ac3core.h");
     }
-    assert_eq!(source.matches("pub const").count(), 1 + Refusal::ALL.len());
+    assert_eq!(source.matches("Refusal::").count(), Refusal::ALL.len());
     assert!(header.contains("#define AC3_LONGEST_BODY(channels) ((size_t)3480 * (size_t)(channels))"));
 }
 

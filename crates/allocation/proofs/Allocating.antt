@@ -1,13 +1,13 @@
 -- From the arrays of the bands to the allocation.
 use Prim.Native.Nat.{ℕ, suc, ◌+◌, ◌-◌, ◌%◌, ◌≤◌, ◌<◌}
 use mathlib.Core.Bool.{Bool, true, false, ◌&&◌, ◌||◌}
-use mathlib.Core.List.{List}
+use mathlib.Core.List.{List, ◌++◌}
 use mathlib.Core.Path.{◌≡◌, refl, sym, ap, ◌∙◌}
 use native.Mathlib.Decide.{dec_lt}
 use native.Mathlib.Omega.{arith}
 use lib.Dec.{T, leb, eqb, leb→le}
-use lib.ListN.{length, take, drop, get_or, replicate, length-take, length-drop, get_or-eq_default}
-use lib.Seq.{take-length}
+use lib.ListN.{length, take, drop, get_or, replicate, length-take, length-drop, length-append, get_or-eq_default}
+use lib.Seq.{take-length, take_at, get_or-take}
 use borrow.Author.Tests.{lt-ltb, le-ltb, eqb-true, leb-true}
 use Rattle.bits.specs.Parts.{tab}
 use Rattle.bits.specs.PartsLaws.{length-tab, get_or-tab, tab-cong, placed}
@@ -18,11 +18,14 @@ use Rattle.tables.specs.Entry.{entry, row}
 use Rattle.tables.specs.Masking.{hth}
 use Rattle.tables.specs.Parameters.{floortab}
 use Rattle.tables.proofs.Rules.{bndtab-one, dbpbtab-most, hth-least, hth-most, length-hth}
+use Rattle.std.specs.List.{All}
+use Rattle.sheet.specs.Legal.{LegalSegment}
+use Rattle.sheet.specs.Record.{segments_of}
 use Rattle.sheet.specs.Ranges.{lfe_end, full_end, legal_end}
 use Rattle.sheet.specs.declared.common_part.Common.{Common}
 use Rattle.sheet.specs.declared.record.ChannelRecord.{ChannelRecord}
 use Rattle.excitation.specs.BandPsd.{bndpsd}
-use Rattle.excitation.specs.BandPsdLaws.{bndpsd-most}
+use Rattle.excitation.specs.BandPsdLaws.{bndpsd-most, bndpsd-same}
 use Rattle.excitation.specs.BandOrder.{Bands}
 use Rattle.excitation.specs.Front.{front}
 use Rattle.excitation.specs.FrontLaws.{tab-zeros}
@@ -35,7 +38,7 @@ use Rattle.masking.specs.HeldLaws.{deltas-most}
 use Rattle.allocation.specs.Initialization.{dbknee_of}
 use Rattle.allocation.specs.Allocation.{allocated}
 use Rattle.allocation.specs.Legal.{LegalCodes}
-use Rattle.allocation.specs.Held.{held_floor, held_offset, parameters_of, Small, level_at, bap_by, bap_at, held_below, held_bin}
+use Rattle.allocation.specs.Held.{held_floor, held_offset, parameters_of, Small, level_at, bap_from, bap_by, bap_at, held_below, held_bin}
 use Rattle.allocation.specs.HeldLaws.{allocated-held}
 use Rattle.allocation.specs.declared.initialization.Parameters.{Parameters}
 use Rattle.allocation.proofs.ByBand.{below-bands, array_at, array-most}
@@ -75,6 +78,38 @@ legal-bands end n legal b h = go (lfe_end end) refl legal
 
 -- ---- the arrays
 
+-- the bins below end, as a list of their own, have the same bands and the same psds
+pub bins-long : (exp : List ℕ) (end : ℕ) → end ≤ length exp → length (take end exp) ≡ end
+bins-long exp end h = rw length-take (omega arith)
+
+pub bins-most : (exp : List ℕ) (end : ℕ) → end ≤ length exp → ((i : ℕ) → i < end → get_or exp i 0 ≤ 24)
+    → (i : ℕ) → i < length (take end exp) → get_or (take end exp) i 0 ≤ 24
+bins-most exp end h most i l = let u : i < end = omega (arith, bins-long exp end h) in rw (get_or-take end exp i 0 u) (most i u)
+
+pub bins-bands : (exp : List ℕ) (end n : ℕ) → end ≤ length exp → Bands (length (take end exp)) n → Bands end n
+bins-bands exp end n h b = rw (bins-long exp end h) at b
+
+pub bins-powers : (exp : List ℕ) (end : ℕ) (powers : List ℕ) → end ≤ length exp → powers ≡ tab 51 (bndpsd (take end exp) 0 (length (take end exp)))
+    → powers ≡ tab 51 (bndpsd exp 0 end)
+bins-powers exp end powers h e =
+    e
+    ∙ ap (λ (k : ℕ). tab 51 (bndpsd (take end exp) 0 k)) (bins-long exp end h)
+    ∙ tab-cong (bndpsd (take end exp) 0 end) (bndpsd exp 0 end) 51 (λ k _. bndpsd-same (take end exp) exp 0 end k (λ i _ l. get_or-take end exp i 0 l))
+
+-- what is filled in by them stands in front of what stood behind
+from-bins : (bases exp : List ℕ) (end bin : ℕ) → bin < end → bap_from bases (take end exp) bin ≡ bap_from bases exp bin
+unfolding bap_from
+from-bins bases exp end bin h = rw (get_or-take end exp bin 0 h) refl
+
+pub bins-filled : (bases exp bap filled : List ℕ) (end : ℕ) → end ≤ length exp → end ≤ length bap
+    → filled ≡ tab (length (take end exp)) (bap_from bases (take end exp))
+    → (length (filled ++ drop end bap) ≡ length bap) × (take end (filled ++ drop end bap) ≡ tab end (bap_from bases exp))
+bins-filled bases exp bap filled end h room q =
+    let e : filled ≡ tab end (bap_from bases exp) =
+    q ∙ ap (λ (k : ℕ). tab k (bap_from bases (take end exp))) (bins-long exp end h) ∙ tab-cong _ _ end (λ bin l. from-bins bases exp end bin l) in
+    let n : length filled ≡ end = ap length e ∙ length-tab end (bap_from bases exp) in
+    (rw (length-append, length-drop) (omega arith), take_at filled (drop end bap) end n ∙ e)
+
 pub powers-most : (exp : List ℕ) (end : ℕ) (powers : List ℕ) → powers ≡ tab 51 (bndpsd exp 0 end) → (k : ℕ) → get_or powers k 0 ≤ 3492
 powers-most exp end powers e k = rw e (go (dec_lt k 51))
   where
@@ -91,11 +126,15 @@ pub excites-small : (p : LeakParameters) (lfe : Bool) (powers : List ℕ) (n : �
 excites-small p lfe powers n xs zs few e z h =
     array-most (excited_by p lfe powers) 0 n xs zs few e z 8191 (λ k. omega (arith, excited-most p lfe powers h k)) (omega arith)
 
-pub deltas-small : (channel : ChannelRecord) (n : ℕ) (xs zs : List ℕ) → n ≤ 50 → xs ≡ front (held_deltas channel.offst channel.len channel.ba channel.nseg) n zs
-    → zs ≡ replicate 50 512 → ((i : ℕ) → i < channel.nseg → get_or channel.ba i 0 ≤ 7) → (k : ℕ) → get_or xs k 0 ≤ 32768
-deltas-small channel n xs zs few e z h =
-    let f = held_deltas channel.offst channel.len channel.ba channel.nseg in
-    array-most f 512 n xs zs few e z 32768 (λ k. omega (arith, deltas-most channel.offst channel.len channel.ba channel.nseg k h)) (omega arith)
+pub deltas-small : (channel : ChannelRecord) (xs : List ℕ) → xs ≡ tab 50 (held_deltas (segments_of channel)) → All LegalSegment (segments_of channel) → (k : ℕ) → get_or xs k 0 ≤ 32768
+deltas-small channel xs e h k = rw e (go (dec_lt k 50))
+  where
+    f : ℕ → ℕ
+    f = held_deltas (segments_of channel)
+
+    go : Dec (k < 50) → get_or (tab 50 f) k 0 ≤ 32768
+    go (yes l) = rw (get_or-tab 50 f k l) (omega (arith, deltas-most (segments_of channel) k (λ i d q. (h i d q).ba)))
+    go (no l) = rw (get_or-eq_default (tab 50 f) 0 {n = k} (omega (arith, l, length-tab 50 f))) (omega arith)
 
 pub thresholds-long : (fscod : ℕ) (table : List ℕ) → fscod ≤ 2 → table ≡ row hth fscod → length table ≡ 50
 thresholds-long fscod table h e = ap length e ∙ length-hth fscod (omega arith)
@@ -116,21 +155,21 @@ pub record Arrays (common : Common) (channel : ChannelRecord) (end : ℕ) (exp :
   pub bands : Bands end n
   pub powers-are : powers ≡ tab 51 (bndpsd exp 0 end)
   pub excites-are : (k : ℕ) → k < n → get_or excites k 0 ≡ excited_by p.leak (lfe_end end) powers k
-  pub added-are : (k : ℕ) → k < n → get_or added k 0 ≡ held_deltas channel.offst channel.len channel.ba channel.nseg k
+  pub added-are : (k : ℕ) → k < n → get_or added k 0 ≡ held_deltas (segments_of channel) k
   pub thresholds-are : thresholds ≡ row hth common.fscod
 
-pub arrays : (common : Common) (channel : ChannelRecord) (end : ℕ) (exp : List ℕ) (p : Parameters) (n : ℕ) (powers excites added thresholds zeros nothing : List ℕ)
+pub arrays : (common : Common) (channel : ChannelRecord) (end : ℕ) (exp : List ℕ) (p : Parameters) (n : ℕ) (powers excites added thresholds zeros : List ℕ)
     → p ≡ parameters_of common channel → Bands end n → powers ≡ tab 51 (bndpsd exp 0 end)
     → excites ≡ front (excited_by p.leak (lfe_end end) powers) n zeros → zeros ≡ replicate 50 0
-    → added ≡ front (held_deltas channel.offst channel.len channel.ba channel.nseg) n nothing → nothing ≡ replicate 50 512
+    → added ≡ tab 50 (held_deltas (segments_of channel))
     → thresholds ≡ row hth common.fscod → Arrays common channel end exp p n powers excites added thresholds
-arrays common channel end exp p n powers excites added thresholds zeros nothing q b w x z d o t =
+arrays common channel end exp p n powers excites added thresholds zeros q b w x z d t =
     record {
       parameters = q;
       bands = b;
       powers-are = w;
       excites-are = array_at (excited_by p.leak (lfe_end end) powers) 0 n excites zeros b.few x z;
-      added-are = array_at (held_deltas channel.offst channel.len channel.ba channel.nseg) 512 n added nothing b.few d o;
+      added-are = λ k l. rw d (get_or-tab 50 (held_deltas (segments_of channel)) k (omega (arith, b.few)));
       thresholds-are = t;
     }
 

@@ -14,11 +14,11 @@ use Rattle.tables.specs.Bands.{bndtab, masktab}
 use Rattle.tables.specs.Computed.{all_below, at-index}
 use Rattle.tables.specs.Entry.{entry}
 use Rattle.tables.specs.Quantizer.{baptab}
-use Rattle.tables.proofs.Rules.{masktab-only}
+use Rattle.tables.proofs.Rules.{masktab-only, bndtab-next, bndtab-joined, bndtab-last}
 use Rattle.excitation.specs.Psd.{psd}
 use Rattle.excitation.specs.BandPsd.{lastbin}
-use Rattle.excitation.specs.BandOrder.{Bands, Starts}
-use Rattle.excitation.specs.BandOrderLaws.{starts-joined, next-bounds}
+use Rattle.excitation.specs.BandOrder.{Bands}
+use Rattle.excitation.specs.BandOrderLaws.{next-bounds}
 use Rattle.excitation.specs.Front.{front}
 use Rattle.excitation.specs.FrontLaws.{tab-split}
 use Rattle.masking.specs.Held.{held_curve}
@@ -44,25 +44,17 @@ pub length-window : length window ≡ 272
 unfolding window baptab
 length-window = refl
 
--- a read of a table that is the window
-pub window-read : (table : List ℕ) (j v : ℕ) → table ≡ window → v ≡ get_or table j 0 → v ≡ get_or window j 0
-window-read table j v t e = e ∙ ap (λ (l : List ℕ). get_or l j 0) t
-
+-- reads of a table that is the window
 pub windows-read : (table : List ℕ) (n base : ℕ) (exp ys : List ℕ) → table ≡ window → ys ≡ tab n (λ i. get_or table (base - 4 * get_or exp i 0) 0)
     → ys ≡ tab n (λ i. get_or window (base - 4 * get_or exp i 0) 0)
 windows-read table n base exp ys t e = e ∙ ap (λ (l : List ℕ). tab n (λ i. get_or l (base - 4 * get_or exp i 0) 0)) t
 
-pub length-baptab : length baptab ≡ 64
-unfolding baptab
-length-baptab = refl
-
--- a read of a table that is BAPTAB, at the held address, is one of the window
-pub held-read : (table : List ℕ) (base e v : ℕ) → table ≡ baptab → base ≤ 271 → v ≡ get_or table (min (base - (111 + 4 * e)) 63) 0
-    → v ≡ get_or window (base - 4 * e) 0
+-- a read of BAPTAB at the held address is one of the window
+pub held-read : (base e v : ℕ) → base ≤ 271 → v ≡ get_or baptab (min (base - (111 + 4 * e)) 63) 0 → v ≡ get_or window (base - 4 * e) 0
 unfolding entry
-held-read table base e v t h q =
+held-read base e v h q =
     let p : base - (111 + 4 * e) ≡ base - 4 * e - 111 = omega arith in
-    (rw (t, p) at q) ∙ sym (window-at (base - 4 * e) (omega arith))
+    (rw p at q) ∙ sym (window-at (base - 4 * e) (omega arith))
 
 base-least : (p : Parameters) (x b h a : ℕ) → 111 ≤ held_base p x b h a
 unfolding held_base base_of
@@ -172,29 +164,50 @@ module _ (exp bap : List ℕ) (end bin next : ℕ) (below : next ≤ end) (long 
       let k : length (take (next - bin) (drop bin exp)) ≤ next - bin = rw length-take (omega arith) in
       rw (get_d_part exp bin (next - bin) i (omega arith)) (most (bin + i) (omega arith))
 
--- all bins below bin, the first of the band, have their pointers
-pub record Filled (f : ℕ → ℕ) (end : ℕ) (bap₀ : List ℕ) (band bin : ℕ) (bap : List ℕ) : Type 0 where
-  pub bin≤ : bin ≤ end
-  pub here : Starts end band bin
-  pub done : take bin bap ≡ tab bin f
+-- all bins before the band's first have their pointers: those up to where the band before it ends
+pub record Filled (f : ℕ → ℕ) (end : ℕ) (bap₀ : List ℕ) (band : ℕ) (bap : List ℕ) : Type 0 where
+  pub done : take (lastbin end (band - 1)) bap ≡ tab (lastbin end (band - 1)) f
   pub same_length : length bap ≡ length bap₀
 
-pub filled-start : (f : ℕ → ℕ) (end : ℕ) (bap₀ : List ℕ) → 28 ≤ end → take 28 bap₀ ≡ tab 28 f → Filled f end bap₀ 28 28 bap₀
-filled-start f end bap₀ h e = record { bin≤ = h; here = starts-joined end; done = e; same_length = refl }
+-- where the band before ends this one starts, and the last ends behind all bins
+lastbin-before : (end band : ℕ) → 1 ≤ band → band < 50 → lastbin end (band - 1) ≡ min (entry bndtab band) end
+unfolding lastbin
+lastbin-before end band h l =
+    let e : band - 1 + 1 ≡ band = omega arith in
+    omega (arith, rw e at (bndtab-next (band - 1) (omega arith)))
+
+lastbin-last : (end : ℕ) → end ≤ 253 → lastbin end 49 ≡ end
+unfolding lastbin
+lastbin-last end h = omega (arith, bndtab-last)
+
+pub filled-start : (f : ℕ → ℕ) (end : ℕ) (bap₀ : List ℕ) → 28 ≤ end → take 28 bap₀ ≡ tab 28 f → Filled f end bap₀ 28 bap₀
+filled-start f end bap₀ h e =
+    let z : lastbin end 27 ≡ 28 = omega (arith, lastbin-before end 28 (omega arith) (omega arith), bndtab-joined) in
+    record { done = rw z e; same_length = refl }
 
 module _ (bases exp : List ℕ) (end : ℕ) (bap₀ : List ℕ) (few : end ≤ 253) (room : end ≤ length bap₀) where
-  pub filled_more : (band bin next : ℕ) (bap ys : List ℕ) → Filled (bap_from bases exp) end bap₀ band bin bap → bin < end → next ≡ lastbin end band
+  pub filled_more : (band bin next : ℕ) (bap ys : List ℕ) → Filled (bap_from bases exp) end bap₀ band bap → 28 ≤ band → band < 50
+      → bin ≡ entry bndtab band → bin < end → next ≡ lastbin end band
       → ys ≡ tab (length (take (next - bin) (drop bin bap))) (λ i. get_or window (get_or bases band 0 - 4 * get_or (take (next - bin) (drop bin exp)) i 0) 0)
-      → Filled (bap_from bases exp) end bap₀ (band + 1) next (placed bin (next - bin) bap ys)
-  filled_more band bin next bap ys s t n y =
+      → Filled (bap_from bases exp) end bap₀ (band + 1) (placed bin (next - bin) bap ys)
+  filled_more band bin next bap ys s h l q t n y =
       let f = bap_from bases exp in
       let base = get_or bases band 0 in
-      let g = next-bounds end band bin next (s.here t).0 (s.here t).1 t few n in
-      let z : length (take (next - bin) (drop bin bap)) ≡ next - bin = rw (length-take, length-drop) (omega (arith, s.same_length)) in
+      let g = next-bounds end band bin next l q t few n in
+      let before : lastbin end (band - 1) ≡ bin = omega (arith, lastbin-before end band (omega arith) l) in
+      let after : lastbin end (band + 1 - 1) ≡ next = let e : band + 1 - 1 ≡ band = omega arith in rw e (sym n) in
+      let z : length (take (next - bin) (drop bin bap)) ≡ next - bin = rw (length-take, length-drop) (omega (arith, g.middle, s.same_length)) in
       let each : (i : ℕ) → i < next - bin → get_or window (base - 4 * get_or (take (next - bin) (drop bin exp)) i 0) 0 ≡ f (bin + i) =
-      λ i h. rw (get_d_part exp bin (next - bin) i h) (from-base bases exp (bin + i) band _ (masktab-here end band bin next (s.here t).1 n i (omega arith)) refl) in
-      let d = tab-part f bap ys bin next (omega arith) (omega (arith, s.same_length)) s.done (y ∙ rw z (tab-cong _ _ (next - bin) each)) in
-      record { bin≤ = g.middle; here = g.next-band; done = d.0; same_length = d.1 ∙ s.same_length }
+      λ i u. rw (get_d_part exp bin (next - bin) i u) (from-base bases exp (bin + i) band _ (masktab-here end band bin next q n i (omega arith)) refl) in
+      let d = tab-part f bap ys bin next (omega (arith, g.least)) (omega (arith, g.middle, s.same_length)) (rw before at s.done) (y ∙ rw z (tab-cong _ _ (next - bin) each)) in
+      record { done = rw after d.0; same_length = d.1 ∙ s.same_length }
 
-pub filled-end : (f : ℕ → ℕ) (end : ℕ) (bap₀ : List ℕ) (band bin : ℕ) (bap : List ℕ) → Filled f end bap₀ band bin bap → end ≤ bin → take end bap ≡ tab end f
-filled-end f end bap₀ band bin bap s h = let e : bin ≡ end = omega (arith, s.bin≤) in rw e at s.done
+-- a band that starts at end or past it, and the end of the loop
+pub filled-there : (f : ℕ → ℕ) (end : ℕ) (bap₀ : List ℕ) (band : ℕ) (bap : List ℕ) → Filled f end bap₀ band bap → 1 ≤ band → band < 50 → end ≤ entry bndtab band
+    → take end bap ≡ tab end f
+filled-there f end bap₀ band bap s h l u =
+    let e : lastbin end (band - 1) ≡ end = omega (arith, lastbin-before end band h l) in
+    rw e at s.done
+
+pub filled-end : (f : ℕ → ℕ) (end : ℕ) (bap₀ bap : List ℕ) → end ≤ 253 → Filled f end bap₀ 50 bap → take end bap ≡ tab end f
+filled-end f end bap₀ bap few s = rw (lastbin-last end few) at s.done

@@ -1,9 +1,14 @@
 -- The allocation of one channel (the Rust's `compute_bap`, A/52 7.2.2; document 01, "Allocation"), and what the call answers and leaves on every input
 -- (document 01, "When a call is turned back": 2, 10, 4).
-use Rattle.std.specs.Prelude.{ℕ, Bool, not, cond, ◌&&◌, List, eqb, leb, ℤ, ◌+ℤ◌, length, get_or}
+use Rattle.std.specs.Prelude.{ℕ, Bool, ◌&&◌, List, leb, ℤ, ◌+ℤ◌, length, take, Result, Ok}
+use Rattle.std.specs.List.{list_all}
 use Rattle.bits.specs.Parts.{tab}
-use Rattle.bits.specs.Refusal as refusal
-use Rattle.sheet.specs.Ranges.{all_below, lfe_end, legal_end}
+use Rattle.bits.specs.Answer.{must, kept}
+use Rattle.bits.specs.declared.refusal.Refusal.{Refusal}
+use Rattle.bits.specs.declared.refusal.Refusal.TheVariants as refusal
+use Rattle.elements.specs.declared.segment.Segment.{Segment}
+use Rattle.sheet.specs.Ranges.{lfe_end, legal_end}
+use Rattle.sheet.specs.Record.{segments_of}
 use Rattle.sheet.specs.declared.common_part.Common.{Common}
 use Rattle.sheet.specs.declared.record.ChannelRecord.{ChannelRecord}
 use Rattle.excitation.specs.BandPsd.{bndpsd}
@@ -17,7 +22,7 @@ use Rattle.allocation.specs.Bap.{bap_of}
 unfoldable pub mask_of : Common → ChannelRecord → ℕ → List ℕ → ℕ → ℤ
 mask_of common channel end exp band =
     masking_curve (excite (leak_of common channel) (lfe_end end) (bndpsd exp 0 end) band) (bndpsd exp 0 end band) (dbknee_of common) common.fscod band
-    +ℤ deltas channel.offst channel.len channel.ba channel.nseg band
+    +ℤ deltas (segments_of channel) band
 
 -- the bap of n bins, 0 from end on. The rule of A/52 7.2.2.1.1 for a frame whose offsets are all 0 is not applied, as document 01 has it
 -- (docs/DIFFERENCES.md)
@@ -26,8 +31,8 @@ allocated common channel end exp n = tab n (bap_of (mask_of common channel end e
 
 -- the tests: 2, a code or the end is out of its range of document 01, "The track sheet" (a segment from nseg on is not looked at); 10, a slice
 -- of the wrong length; 4, an exponent above 24. What they say, as bounds: Legal.antt
-unfoldable pub segment_in_range : List ℕ → List ℕ → List ℕ → ℕ → Bool
-segment_in_range offst len ba i = leb (get_or offst i 0) 31 && leb (get_or len i 0) 15 && leb (get_or ba i 0) 7
+unfoldable pub segment_in_range : Segment → Bool
+segment_in_range s = leb s.offst 31 && leb s.len 15 && leb s.ba 7
 
 unfoldable pub common_codes : Common → Bool
 common_codes common =
@@ -38,7 +43,7 @@ common_codes common =
 unfoldable pub channel_codes : ChannelRecord → Bool
 channel_codes channel =
     leb channel.nseg 8 && leb channel.fsnroffst 15 && leb channel.fgaincod 7
-    && all_below channel.nseg (segment_in_range channel.offst channel.len channel.ba)
+    && list_all segment_in_range (segments_of channel)
 
 unfoldable pub in_range : Common → ChannelRecord → ℕ → Bool
 in_range common channel end = common_codes common && channel_codes channel && legal_end end
@@ -48,17 +53,16 @@ unfoldable pub right_lengths : ℕ → ℕ → ℕ → Bool
 right_lengths end entries size = leb entries 256 && leb size 256 && leb end entries && leb end size
 
 unfoldable pub exponents_fit : List ℕ → ℕ → Bool
-exponents_fit exp end = all_below end (λ bin. leb (get_or exp bin 0) 24)
+exponents_fit exp end = list_all (λ e. leb e 24) (take end exp)
 
 -- the answer; size is the length of the slice for the bap
-unfoldable pub answer_of : Common → ChannelRecord → ℕ → List ℕ → ℕ → ℕ
+unfoldable pub answer_of : Common → ChannelRecord → ℕ → List ℕ → ℕ → Result Unit Refusal
 answer_of common channel end exp size =
-    cond (not (in_range common channel end)) refusal.out_of_range
-    (cond (not (right_lengths end (length exp) size)) refusal.wrong_length
-    (cond (not (exponents_fit exp end)) refusal.bad_exponent
-    refusal.accepted))
+    must (in_range common channel end) refusal.OutOfRange
+    (must (right_lengths end (length exp) size) refusal.WrongLength
+    (must (exponents_fit exp end) refusal.BadExponent
+    (Ok tt)))
 
 -- what the call leaves in the slice: a refused one leaves it as it was
 unfoldable pub left_in : Common → ChannelRecord → ℕ → List ℕ → List ℕ → List ℕ
-left_in common channel end exp bap =
-    cond (eqb (answer_of common channel end exp (length bap)) refusal.accepted) (allocated common channel end exp (length bap)) bap
+left_in common channel end exp bap = kept (answer_of common channel end exp (length bap)) (allocated common channel end exp (length bap)) bap

@@ -13,7 +13,11 @@ use Rattle.tables.specs.Bands.{masktab}
 use Rattle.tables.specs.Entry.{entry}
 use Rattle.tables.specs.Quantizer.{baptab}
 use Rattle.tables.proofs.Rules.{baptab-most}
-use Rattle.sheet.specs.Legal.{LegalCommon, LegalRecord}
+use Rattle.elements.specs.declared.segment.Segment.{Segment}
+use Rattle.std.proofs.Common.{subst, sym, ◌∙◌, length-take}
+use Rattle.std.proofs.lemmas.List.{get_or_default, get_or-take}
+use Rattle.sheet.specs.Record.{no_segment, segments_of}
+use Rattle.sheet.specs.Legal.{LegalCommon, LegalRecord, LegalSegment}
 use Rattle.sheet.specs.Ranges.{lfe_end}
 use Rattle.sheet.specs.declared.common_part.Common.{Common}
 use Rattle.sheet.specs.declared.record.ChannelRecord.{ChannelRecord}
@@ -93,9 +97,15 @@ module _ (common : Common) (channel : ChannelRecord) (end : ℕ) (exp other : Li
 
 -- ---- legal codes
 
+-- a segment in use is one of the eight
+segment_there : (channel : ChannelRecord) (i : ℕ) (d : Segment) → i < length (segments_of channel) → get_or (segments_of channel) i d ≡ get_or channel.segments i no_segment
+segment_there channel i d l =
+    let few = length-take channel.nseg channel.segments in
+    get_or-take channel.nseg channel.segments i d (omega (arith, few)) ∙ get_or_default channel.segments i d no_segment (omega (arith, few))
+
 -- the codes of a legal record are legal
 pub codes-legal : {common : Common} {c : ℕ} {channel : ChannelRecord} → LegalCommon common → LegalRecord common c channel → LegalCodes common channel
-codes-legal common r =
+codes-legal {channel = channel} common r =
     record {
       fscod = common.fscod;
       sdcycod = common.sdcycod;
@@ -107,7 +117,5 @@ codes-legal common r =
       fsnroffst = r.fsnroffst;
       fgaincod = r.fgaincod;
       nseg = r.nseg;
-      offst = λ i l. r.offst i;
-      len = λ i l. r.len i;
-      ba = λ i l. r.ba i;
+      segments = λ i d l. subst LegalSegment (sym (segment_there channel i d l)) (r.segments i);
     }

@@ -7,7 +7,9 @@ use Rattle.tables.specs.Entry.{entry, row}
 use Rattle.tables.specs.Masking.{hth}
 use Rattle.tables.specs.Parameters.{floortab}
 use Rattle.tables.specs.Quantizer.{baptab}
+use Rattle.elements.specs.declared.segment.Segment.{Segment}
 use Rattle.sheet.specs.Ranges.{lfe_end}
+use Rattle.sheet.specs.Record.{segments_of}
 use Rattle.sheet.specs.declared.common_part.Common.{Common}
 use Rattle.sheet.specs.declared.record.ChannelRecord.{ChannelRecord}
 use Rattle.excitation.specs.Psd.{psd}
@@ -85,19 +87,19 @@ bap_by p powers excites added thresholds exp bin =
     held_bap (held_level p (get_or excites band 0) (get_or powers band 0) (get_or thresholds band 0) (get_or added band 0)) (get_or exp bin 0)
 
 -- the level of a band of a channel with bins 0 .. end - 1, from its parameters, its thresholds and its segments
-unfoldable pub level_at : Parameters → List ℕ → List ℕ → List ℕ → List ℕ → ℕ → ℕ → List ℕ → ℕ → ℕ
-level_at p thresholds offst len ba nseg end exp band =
+unfoldable pub level_at : Parameters → List ℕ → List Segment → ℕ → List ℕ → ℕ → ℕ
+level_at p thresholds segments end exp band =
     held_level p (after p.leak (lfe_end end) (bndpsd exp 0 end) (suc band)).excite (bndpsd exp 0 end band) (entry thresholds band)
-    (held_deltas offst len ba nseg band)
+    (held_deltas segments band)
 
 -- the bap of a bin below end
-unfoldable pub bap_at : Parameters → List ℕ → List ℕ → List ℕ → List ℕ → ℕ → ℕ → List ℕ → ℕ → ℕ
-bap_at p thresholds offst len ba nseg end exp bin = held_bap (level_at p thresholds offst len ba nseg end exp (entry masktab bin)) (get_or exp bin 0)
+unfoldable pub bap_at : Parameters → List ℕ → List Segment → ℕ → List ℕ → ℕ → ℕ
+bap_at p thresholds segments end exp bin = held_bap (level_at p thresholds segments end exp (entry masktab bin)) (get_or exp bin 0)
 
 -- with the values of a sheet
 unfoldable pub held_below : Common → ChannelRecord → ℕ → List ℕ → ℕ → ℕ
 held_below common channel end exp =
-    bap_at (parameters_of common channel) (row hth common.fscod) channel.offst channel.len channel.ba channel.nseg end exp
+    bap_at (parameters_of common channel) (row hth common.fscod) (segments_of channel) end exp
 
 -- and of any bin
 unfoldable pub held_bin : Common → ChannelRecord → ℕ → List ℕ → ℕ → ℕ

@@ -14,6 +14,7 @@ use Rattle.tables.specs.Masking.{hth}
 use Rattle.tables.specs.Parameters.{floortab, signed16}
 use Rattle.tables.proofs.Rules.{masktab-most, dbpbtab-most, hth-least}
 use Rattle.sheet.specs.Ranges.{lfe_end}
+use Rattle.sheet.specs.Record.{segments_of}
 use Rattle.sheet.specs.declared.common_part.Common.{Common}
 use Rattle.sheet.specs.declared.record.ChannelRecord.{ChannelRecord}
 use Rattle.excitation.specs.Signed.{hold}
@@ -100,7 +101,7 @@ module _ (common : Common) (channel : ChannelRecord) (legal : LegalCodes common 
       (entry (row hth common.fscod) band)
 
   mask-held : (band : ℕ) → band < 50 → mask_of common channel end exp band
-      ≡ pos (curve band + held_deltas channel.offst channel.len channel.ba channel.nseg band - 512)
+      ≡ pos (curve band + held_deltas (segments_of channel) band - 512)
   unfolding mask_of curve
   mask-held band h =
       let p = leak_of common channel in
@@ -109,19 +110,19 @@ module _ (common : Common) (channel : ChannelRecord) (legal : LegalCodes common 
       let c : masking_curve (excite p (lfe_end end) (bndpsd exp 0 end) band) (bndpsd exp 0 end band) (dbknee_of common) common.fscod band ≡ pos (curve band) =
       curve-held (excite p (lfe_end end) (bndpsd exp 0 end) band) (bndpsd exp 0 end band) (dbknee_of common) common.fscod band knee-most f h
       ∙ ap (λ (x : ℕ). pos (held_curve x (bndpsd exp 0 end band) (dbknee_of common) t)) (excite-held p (lfe_end end) (bndpsd exp 0 end) band) in
-      ap (λ (z : ℤ). z +ℤ deltas channel.offst channel.len channel.ba channel.nseg band) c
+      ap (λ (z : ℤ). z +ℤ deltas (segments_of channel) band) c
       ∙ deltas-held (curve band) (omega (arith, curve-least (after p (lfe_end end) (bndpsd exp 0 end) (suc band)).excite (bndpsd exp 0 end band) (dbknee_of common) t, hth-least common.fscod band f h))
-      channel.offst channel.len channel.ba channel.nseg band
+      (segments_of channel) band
 
   abbrev level : ℕ → ℕ
-  level = level_at (parameters_of common channel) (row hth common.fscod) channel.offst channel.len channel.ba channel.nseg end exp
+  level = level_at (parameters_of common channel) (row hth common.fscod) (segments_of channel) end exp
 
   level-held : (band : ℕ) → band < 50
       → lowered (mask_of common channel end exp band) (snroffset_of common channel) (floor_of common) ≡ pos (level band) -ℤ pos 2048
   unfolding snroffset_of floor_of level_at held_level parameters_of curve
   level-held band h =
       rw (mask-held band h, offset-held common.csnroffst channel.fsnroffst (omega (arith, legal.csnroffst)) (omega (arith, legal.fsnroffst)), floor-held common.floorcod (omega (arith, legal.floorcod)))
-      (lowered-held (curve band + held_deltas channel.offst channel.len channel.ba channel.nseg band - 512) (held_offset common.csnroffst channel.fsnroffst) (held_floor (entry floortab common.floorcod)))
+      (lowered-held (curve band + held_deltas (segments_of channel) band - 512) (held_offset common.csnroffst channel.fsnroffst) (held_floor (entry floortab common.floorcod)))
 
   bin-held : (bin : ℕ)
       → bap_of (mask_of common channel end exp) (snroffset_of common channel) (floor_of common) 0 end exp bin ≡ held_bin common channel end exp bin

@@ -1,5 +1,7 @@
 -- What the tests of Allocation.antt say, as bounds that the code and the laws use; AnswerLaws.antt shows that they say the same.
-use Rattle.std.specs.Prelude.{ℕ, ◌≤◌, ◌<◌, true, List, ◌≡◌, length, get_or}
+use Rattle.std.specs.Prelude.{ℕ, ◌≤◌, ◌<◌, true, List, All, ◌≡◌, length, get_or}
+use Rattle.sheet.specs.Legal.{LegalSegment}
+use Rattle.sheet.specs.Record.{segments_of}
 use Rattle.sheet.specs.Ranges.{legal_end}
 use Rattle.sheet.specs.declared.common_part.Common.{Common}
 use Rattle.sheet.specs.declared.record.ChannelRecord.{ChannelRecord}
@@ -16,9 +18,7 @@ pub record LegalCodes (common : Common) (channel : ChannelRecord) : Type 0 where
   pub fsnroffst : channel.fsnroffst ≤ 15
   pub fgaincod : channel.fgaincod ≤ 7
   pub nseg : channel.nseg ≤ 8
-  pub offst : (i : ℕ) → i < channel.nseg → get_or channel.offst i 0 ≤ 31
-  pub len : (i : ℕ) → i < channel.nseg → get_or channel.len i 0 ≤ 15
-  pub ba : (i : ℕ) → i < channel.nseg → get_or channel.ba i 0 ≤ 7
+  pub segments : All LegalSegment (segments_of channel)
 
 -- the end is one that a sheet may hold, the exponents below it are at most 24, and both slices reach to it; size is the length of the one for the bap
 pub record LegalBins (exp : List ℕ) (end size : ℕ) : Type 0 where

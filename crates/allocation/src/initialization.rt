@@ -7,7 +7,7 @@ use excitation::LeakParameters;
 use sheet::{ChannelRecord, Common};
 
 // The floor is 2048 up, the offset 960 up: neither is negative then.
-#[derive(Clone, Copy)]
+#[derive(Clone, Copy, Debug, PartialEq, Eq)]
 pub struct Parameters {
     pub leak: LeakParameters,
     pub dbknee: u32,
@@ -16,31 +16,33 @@ pub struct Parameters {
 }
 
 // The floor of a pattern of 16 bits, 2048 up.
+#[tactic(auto, unfolding(crate::specs::Held::held_floor))]
 fn held_floor(pattern: u16) -> u32
     ensures { (result ≡ held_floor pattern) × (result ≤ 65535) }
 {
-    (pattern as u32 + 2048) % 65536
+    (u32::from(pattern) + 2048) % 65536
 }
 
+#[tactic(auto, unfolding(crate::specs::Held::held_offset))]
 fn held_offset(csnroffst: u8, fsnroffst: u8) -> u32
     ensures { (result ≡ held_offset csnroffst fsnroffst) × (result ≤ 17340) }
 {
-    64 * (csnroffst as u32) + 4 * (fsnroffst as u32)
+    64 * u32::from(csnroffst) + 4 * u32::from(fsnroffst)
 }
 
-pub fn initialize(common: Common, channel: ChannelRecord) -> Parameters
-    requires { LegalCodes common channel }
-    ensures { result ≡ parameters_of common channel }
+pub fn initialize(common: &Common, channel: &ChannelRecord) -> Parameters
+    requires { LegalCodes common.now channel.now }
+    ensures { result ≡ parameters_of common.now channel.now }
 {
     Parameters {
         leak: LeakParameters {
-            sdecay: tables::slowdec(common.sdcycod) as u32,
-            fdecay: tables::fastdec(common.fdcycod) as u32,
-            sgain: tables::slowgain(common.sgaincod) as u32,
-            fgain: tables::fastgain(channel.fgaincod) as u32,
+            sdecay: u32::from(tables::slowdec()[usize::from(common.sdcycod)]),
+            fdecay: u32::from(tables::fastdec()[usize::from(common.fdcycod)]),
+            sgain: u32::from(tables::slowgain()[usize::from(common.sgaincod)]),
+            fgain: u32::from(tables::fastgain()[usize::from(channel.fgaincod)]),
         },
-        dbknee: tables::dbpbtab(common.dbpbcod) as u32,
-        floor: held_floor(tables::floortab(common.floorcod)),
+        dbknee: u32::from(tables::dbpbtab()[usize::from(common.dbpbcod)]),
+        floor: held_floor(tables::floortab()[usize::from(common.floorcod)]),
         snroffset: held_offset(common.csnroffst, channel.fsnroffst),
     }
 }

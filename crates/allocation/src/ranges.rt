@@ -1,6 +1,6 @@
-// What an allocation takes (document 01, "When a call is turned back": 2, 10 and 4).
+// What the call turns back (document 01, "When a call is turned back": 2, 10 and 4).
 ghost use Rattle.std.specs.Prelude.{◌≡◌, ◌≤◌, length};
-ghost use Rattle.sheet.specs.Ranges.{all_below};
+ghost use Rattle.std.specs.List.{list_all};
 ghost use Rattle.allocation.specs.Allocation.{
   channel_codes,
   common_codes,
@@ -10,10 +10,11 @@ ghost use Rattle.allocation.specs.Allocation.{
   segment_in_range,
 };
 
+use elements::Segment;
 use sheet::{ChannelRecord, Common, legal_end};
 
-fn common_codes(common: Common) -> bool
-    ensures { result ≡ common_codes common }
+fn common_codes(common: &Common) -> bool
+    ensures { result ≡ common_codes common.now }
 {
     (common.fscod <= 2)
         & (common.sdcycod <= 3)
@@ -24,33 +25,32 @@ fn common_codes(common: Common) -> bool
         & (common.csnroffst <= 63)
 }
 
-fn segments_in_range(offst: &[u8; 8], len: &[u8; 8], ba: &[u8; 8], nseg: usize) -> bool
-    requires { (nseg ≤ 8) × (length offst.now ≡ 8) × (length len.now ≡ 8) × (length ba.now ≡ 8) }
-    ensures { result ≡ all_below nseg (segment_in_range offst.now len.now ba.now) }
+#[tactic(auto, unfolding(crate::specs::Allocation::segment_in_range))]
+fn segment_in_range(segment: &Segment) -> bool
+    ensures { result ≡ segment_in_range segment.now }
 {
-    let mut all = true;
-    for i in 0..nseg {
-        all = all & ((offst[i] <= 31) & (len[i] <= 15) & (ba[i] <= 7));
-    }
-    all
+    (segment.offst <= 31) & (segment.len <= 15) & (segment.ba <= 7)
 }
 
-fn channel_codes(channel: ChannelRecord) -> bool
-    ensures { result ≡ channel_codes channel }
+fn segments_in_range(segments: &[Segment]) -> bool
+    ensures { result ≡ list_all segment_in_range segments.now }
+{
+    segments.iter().all(|segment| segment_in_range(segment))
+}
+
+fn channel_codes(channel: &ChannelRecord) -> bool
+    ensures { result ≡ channel_codes channel.now }
 {
     if 8 < channel.nseg {
         return false;
     }
-    let offst = channel.offst;
-    let len = channel.len;
-    let ba = channel.ba;
-    let segments = segments_in_range(&offst, &len, &ba, channel.nseg as usize);
+    let segments = segments_in_range(channel.segments_in_use());
     (channel.fsnroffst <= 15) & (channel.fgaincod <= 7) & segments
 }
 
 // Every code and the end.
-pub fn in_range(common: Common, channel: ChannelRecord, end: usize) -> bool
-    ensures { result ≡ in_range common channel end }
+pub fn in_range(common: &Common, channel: &ChannelRecord, end: usize) -> bool
+    ensures { result ≡ in_range common.now channel.now end }
 {
     common_codes(common) & channel_codes(channel) & legal_end(end)
 }
@@ -62,14 +62,14 @@ pub fn right_lengths(end: usize, entries: usize, size: usize) -> bool
     (entries <= 256) & (size <= 256) & (end <= entries) & (end <= size)
 }
 
-// Whether every exponent below end is at most 24.
+// Whether every exponent below end is at most 24. None ends the loop, so that many can be tested at once.
 pub fn exponents_fit(exp: &[u8], end: usize) -> bool
     requires { end ≤ length exp.now }
     ensures { result ≡ exponents_fit exp.now end }
 {
     let mut all = true;
-    for bin in 0..end {
-        all = all & (exp[bin] <= 24);
+    for &e in &exp[..end] {
+        all &= e <= 24;
     }
     all
 }

@@ -3,13 +3,12 @@ ghost use Rattle.std.specs.Prelude.{◌≡◌};
 ghost use Rattle.allocation.specs.Held as definition;
 
 // BAPTAB of crate `tables` with 111 entries before it, for addresses down to -96 and so that the part that is all 0 fills whole words, and 97 behind
-// it, for those above 63. The compiler works out what is to be stored where, so that the window is laid out as a table of its own would be.
+// it, for those above 63. The table itself is stored once.
 pub fn window() -> [u8; 272]
     ensures { result ≡ definition.window }
 {
-    let baptab = tables::baptab_table();
     let mut window = [0u8; 272];
-    slices::fill(&mut window[175..], 15);
-    slices::copy(&baptab, &mut window[111..175]);
+    window[175..].fill(15);
+    window[111..175].copy_from_slice(tables::baptab());
     window
 }

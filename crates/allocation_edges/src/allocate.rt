@@ -1,5 +1,7 @@
 // A case: the allocation, its answer, and the bap buffer afterwards.
-use crate::channels::{Segments, channel_of, common_of, none};
+ghost use Rattle.std.specs.Prelude.{◌≤◌};
+
+use crate::channels::{Codes, Segments, channel_of, none};
 use crate::exponents::{Exponents, fill};
 use crate::show;
 use sheet::{ChannelRecord, Common};
@@ -9,60 +11,63 @@ fn call(
     rt: &impl Print,
     exp: &[u8],
     end: usize,
-    common: Common,
-    channel: ChannelRecord,
+    common: &Common,
+    channel: &ChannelRecord,
     bap: &mut [u8],
 ) -> io::Result<()> {
-    let refusal = allocation::compute_bap(exp, end, common, channel, bap);
-    print!(rt; ": {refusal}")?;
+    let number = match allocation::compute_bap(exp, end, common, channel, bap) {
+        Ok(()) => 0,
+        Err(refusal) => refusal.number(),
+    };
+    print!(rt; ": {number}")?;
     show::buffer(rt, bap)
 }
 
 // With m exponents and k baps, each of which was 165.
 pub(crate) fn sized(
     rt: &impl Print,
-    codes: [u8; 9],
+    codes: Codes,
     segments: Segments,
     exponents: Exponents,
     end: usize,
     m: usize,
     k: usize,
-) -> io::Result<()> {
+) -> io::Result<()>
+    requires { (m ≤ 257) × (k ≤ 257) }
+{
     let mut exp = [0u8; 257];
     let mut bap = [165u8; 257];
-    if 257 < m {
-        return Ok(());
-    }
-    if 257 < k {
-        return Ok(());
-    }
     fill(&mut exp, exponents);
     call(
         rt,
-        &exp[0..m],
+        &exp[..m],
         end,
-        common_of(codes),
-        channel_of(codes, segments),
-        &mut bap[0..k],
+        &Common::from(codes),
+        &channel_of(codes, segments),
+        &mut bap[..k],
     )
 }
 
 // With slices that end there.
 pub(crate) fn segmented(
     rt: &impl Print,
-    codes: [u8; 9],
+    codes: Codes,
     segments: Segments,
     exponents: Exponents,
     end: usize,
-) -> io::Result<()> {
+) -> io::Result<()>
+    requires { end ≤ 257 }
+{
     sized(rt, codes, segments, exponents, end, end, end)
 }
 
 pub(crate) fn allocated(
     rt: &impl Print,
-    codes: [u8; 9],
+    codes: Codes,
     exponents: Exponents,
     end: usize,
-) -> io::Result<()> {
-    sized(rt, codes, none(), exponents, end, end, end)
+) -> io::Result<()>
+    requires { end ≤ 257 }
+{
+    segmented(rt, codes, none(), exponents, end)
 }

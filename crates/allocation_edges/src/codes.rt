@@ -1,43 +1,34 @@
 // Each value of each code, and the first one above its range.
-ghost use Rattle.std.specs.Prelude.{◌<◌};
-
 use crate::allocate::allocated;
-use crate::channels::{
-    BASE, CSNROFFST, DBPBCOD, FDCYCOD, FGAINCOD, FLOORCOD, FSCOD, FSNROFFST, SDCYCOD, SGAINCOD,
-};
+use crate::channels::{BASE, Codes};
 use crate::exponents::flat_but;
 use std::io;
 
-// The base codes with one changed.
-fn code(rt: &impl Print, label: &str, at: usize, value: u8) -> io::Result<()>
-    requires { at < 9 }
-{
-    let mut codes = BASE;
-    codes[at] = value;
+fn code(rt: &impl Print, label: &str, value: u8, codes: Codes) -> io::Result<()> {
     print!(rt; "{label} {value}")?;
     allocated(rt, codes, flat_but(18, 8, 0), 253)?;
     allocated(rt, codes, flat_but(12, 5, 0), 37)?;
     println!(rt; "")
 }
 
-// The values below `count`.
-fn each(rt: &impl Print, label: &str, at: usize, count: u8) -> io::Result<()>
-    requires { at < 9 }
+// The values below `count`, each in the base codes.
+fn each<F: Fn(u8) -> Codes>(rt: &impl Print, label: &str, count: u8, with: F) -> io::Result<()>
+    requires { F.IsAlwaysCallable with }
 {
     for value in 0..count {
-        code(rt, label, at, value)?;
+        code(rt, label, value, with(value))?;
     }
     Ok(())
 }
 
 pub(crate) fn all(rt: &impl Print) -> io::Result<()> {
-    each(rt, "fscod", FSCOD, 4)?;
-    each(rt, "sdcycod", SDCYCOD, 5)?;
-    each(rt, "fdcycod", FDCYCOD, 5)?;
-    each(rt, "sgaincod", SGAINCOD, 5)?;
-    each(rt, "dbpbcod", DBPBCOD, 5)?;
-    each(rt, "floorcod", FLOORCOD, 9)?;
-    each(rt, "csnroffst", CSNROFFST, 65)?;
-    each(rt, "fsnroffst", FSNROFFST, 17)?;
-    each(rt, "fgaincod", FGAINCOD, 9)
+    each(rt, "fscod", 4, |fscod| Codes { fscod, ..BASE })?;
+    each(rt, "sdcycod", 5, |sdcycod| Codes { sdcycod, ..BASE })?;
+    each(rt, "fdcycod", 5, |fdcycod| Codes { fdcycod, ..BASE })?;
+    each(rt, "sgaincod", 5, |sgaincod| Codes { sgaincod, ..BASE })?;
+    each(rt, "dbpbcod", 5, |dbpbcod| Codes { dbpbcod, ..BASE })?;
+    each(rt, "floorcod", 9, |floorcod| Codes { floorcod, ..BASE })?;
+    each(rt, "csnroffst", 65, |csnroffst| Codes { csnroffst, ..BASE })?;
+    each(rt, "fsnroffst", 17, |fsnroffst| Codes { fsnroffst, ..BASE })?;
+    each(rt, "fgaincod", 9, |fgaincod| Codes { fgaincod, ..BASE })
 }

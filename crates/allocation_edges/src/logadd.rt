@@ -6,8 +6,7 @@ use std::io;
 fn line(rt: &impl Print, a: u32, b: u32) -> io::Result<()>
     requires { (a ≤ 8191) × (b ≤ 8191) }
 {
-    let latab = tables::latab_table();
-    let sum = excitation::logadd(a, b, &latab);
+    let sum = excitation::logadd(a, b);
     println!(rt; "logadd {a} {b}: {sum}")
 }
 
@@ -22,19 +21,10 @@ fn apart(rt: &impl Print, a: u32, d: u32) -> io::Result<()>
 fn distances(rt: &impl Print, a: u32) -> io::Result<()>
     requires { a ≤ 3072 }
 {
-    apart(rt, a, 1)?;
-    apart(rt, a, 3)?;
-    apart(rt, a, 4)?;
-    apart(rt, a, 127)?;
-    apart(rt, a, 128)?;
-    apart(rt, a, 129)?;
-    apart(rt, a, 508)?;
-    apart(rt, a, 509)?;
-    apart(rt, a, 510)?;
-    apart(rt, a, 511)?;
-    apart(rt, a, 512)?;
-    apart(rt, a, 513)?;
-    apart(rt, a, 1023)
+    for d in [1, 3, 4, 127, 128, 129, 508, 509, 510, 511, 512, 513, 1023] {
+        apart(rt, a, d)?;
+    }
+    Ok(())
 }
 
 pub(crate) fn all(rt: &impl Print) -> io::Result<()> {

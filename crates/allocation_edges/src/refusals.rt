@@ -1,13 +1,17 @@
 // Calls that are turned back, in the order 2, 10, 4, with the buffer left as it was; and what is ignored from end on.
+ghost use Rattle.std.specs.Prelude.{◌≤◌};
+
 use crate::allocate::sized;
-use crate::channels::{BASE, Segments, none};
-use crate::exponents::{FLAT, flat_but, of_rule};
+use crate::channels::{BASE, columns, none};
+use crate::exponents::{Rule, flat_but};
 use std::io;
 
 // An end, with slices of so many entries.
-fn slices(rt: &impl Print, label: &str, end: usize, m: usize, k: usize) -> io::Result<()> {
+fn slices(rt: &impl Print, label: &str, end: usize, m: usize, k: usize) -> io::Result<()>
+    requires { (m ≤ 257) × (k ≤ 257) }
+{
     print!(rt; "{label}")?;
-    sized(rt, BASE, none(), of_rule(FLAT, 0), end, m, k)?;
+    sized(rt, BASE, none(), Rule::Flat(0).into(), end, m, k)?;
     println!(rt; "")
 }
 
@@ -20,7 +24,7 @@ pub(crate) fn ends(rt: &impl Print) -> io::Result<()> {
     slices(rt, "end 38", 38, 40, 40)?;
     slices(rt, "end 254", 254, 256, 256)?;
     slices(rt, "end 256", 256, 256, 256)?;
-    slices(rt, "end 2^64 - 1", 18446744073709551615, 256, 256)
+    slices(rt, "end 2^64 - 1", usize::MAX, 256, 256)
 }
 
 pub(crate) fn lengths(rt: &impl Print) -> io::Result<()> {
@@ -43,7 +47,9 @@ fn exponent(
     other: u8,
     end: usize,
     m: usize,
-) -> io::Result<()> {
+) -> io::Result<()>
+    requires { m ≤ 257 }
+{
     print!(rt; "{label}")?;
     sized(rt, BASE, none(), flat_but(0, at, other), end, m, 40)?;
     println!(rt; "")
@@ -68,14 +74,9 @@ fn segments(
     ba: [u8; 8],
 ) -> io::Result<()> {
     print!(rt; "{label}")?;
-    let segments = Segments {
-        nseg: nseg,
-        offst: offst,
-        len: len,
-        ba: ba,
-    };
+    let segments = columns(nseg, offst, len, ba);
     sized(rt, BASE, segments, flat_but(0, 0, 25), 37, 36, 40)?;
-    sized(rt, BASE, segments, of_rule(FLAT, 0), 37, 37, 37)?;
+    sized(rt, BASE, segments, Rule::Flat(0).into(), 37, 37, 37)?;
     println!(rt; "")
 }
 

@@ -1,14 +1,14 @@
 // Delta segments: every delta, the last band, bands past it, segments that are not there.
 use crate::allocate::segmented;
-use crate::channels::{BASE, Segments};
-use crate::exponents::{SLOPE, SPREAD, of_rule};
+use crate::channels::{BASE, Segments, columns};
+use crate::exponents::Rule;
 use std::io;
 
 // The three ways: all bands, the bands of end 37, those of the LFE.
 fn ways(rt: &impl Print, segments: Segments) -> io::Result<()> {
-    segmented(rt, BASE, segments, of_rule(SPREAD, 0), 253)?;
-    segmented(rt, BASE, segments, of_rule(SLOPE, 0), 37)?;
-    segmented(rt, BASE, segments, of_rule(SLOPE, 0), 7)?;
+    segmented(rt, BASE, segments, Rule::Spread(0).into(), 253)?;
+    segmented(rt, BASE, segments, Rule::Slope(0).into(), 37)?;
+    segmented(rt, BASE, segments, Rule::Slope(0).into(), 7)?;
     println!(rt; "")
 }
 
@@ -21,30 +21,14 @@ fn case(
     ba: [u8; 8],
 ) -> io::Result<()> {
     print!(rt; "{label}")?;
-    ways(
-        rt,
-        Segments {
-            nseg: nseg,
-            offst: offst,
-            len: len,
-            ba: ba,
-        },
-    )
+    ways(rt, columns(nseg, offst, len, ba))
 }
 
 // The codes 0..7, and 8, which is refused.
 pub(crate) fn deltas(rt: &impl Print) -> io::Result<()> {
     for ba in 0..9 {
         print!(rt; "ba {ba}")?;
-        ways(
-            rt,
-            Segments {
-                nseg: 1,
-                offst: [3; 8],
-                len: [15; 8],
-                ba: [ba; 8],
-            },
-        )?;
+        ways(rt, columns(1, [3; 8], [15; 8], [ba; 8]))?;
     }
     Ok(())
 }

@@ -3,22 +3,11 @@ use std::io;
 
 // Each entry enters the sum as the next digit, to the base 257, modulo a prime.
 fn next_sum(sum: u64, entry: u8) -> u64 {
-    (sum % 4294967291 * 257 + (entry as u64) + 1) % 4294967291
+    (sum % 4294967291 * 257 + u64::from(entry) + 1) % 4294967291
 }
 
 fn sum(entries: &[u8]) -> u64 {
-    let mut all = 0;
-    for i in 0..entries.len() {
-        all = next_sum(all, entries[i]);
-    }
-    all
-}
-
-fn each(rt: &impl Print, entries: &[u8]) -> io::Result<()> {
-    for entry in entries {
-        print!(rt; " {entry}")?;
-    }
-    Ok(())
+    entries.iter().fold(0, |sum, &entry| next_sum(sum, entry))
 }
 
 // The sum of the entries, and the entries themselves where they are at most 40.
@@ -28,5 +17,8 @@ pub(crate) fn buffer(rt: &impl Print, entries: &[u8]) -> io::Result<()> {
         return Ok(());
     }
     print!(rt; ",")?;
-    each(rt, entries)
+    for entry in entries {
+        print!(rt; " {entry}")?;
+    }
+    Ok(())
 }

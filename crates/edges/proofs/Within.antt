@@ -1,18 +1,22 @@
--- What an index below the size of a bap's levels says of the bap.
-use mathlib.Core.Bool.{Bool, true, false, cond}
-use Prim.Native.Nat.{ℕ, suc, zero, ◌≤◌, ◌<◌}
-use native.Mathlib.Omega.{arith}
-use lib.Dec.{T, ltb, ltb→lt}
-use Rattle.tables.specs.Quantizer.{level_count}
+-- How long a bap's levels are, and an entry of them.
+use mathlib.Core.List.{List}
+use mathlib.Core.Path.{◌≡◌, refl, ap}
+use Prim.Native.Nat.{ℕ, suc, zero, ◌<◌}
+use lib.Ieee.{Float, nan}
+use lib.ListN.{length, get_or}
+use Rattle.tables.specs.Levels.{levels-at}
+use Rattle.tables.specs.Quantizer.{level, levels, levels_from}
 
--- where a size is 0 unless a test holds, it holds
-held : (test : Bool) (n i : ℕ) → i < cond test n 0 → T test × (i < n)
-held true n i h = (tt, h)
-held false n i h = absurd (omega arith)
+length-levels_from : (L n k : ℕ) → length (levels_from L n k) ≡ n
+unfolding levels_from
+length-levels_from L zero k = refl
+length-levels_from L (suc n) k = ap suc (length-levels_from L n (suc k))
 
-pub level-there : (bap i : ℕ) → i < cond (ltb bap 6) (level_count bap) 0 → (1 ≤ bap) × (bap ≤ 5) × (i < level_count bap)
-unfolding level_count
-level-there zero i h = absurd (omega arith)
-level-there (suc b) i h =
-    let t = held (ltb (suc b) 6) (level_count (suc b)) i h in
-    let l = ltb→lt (suc b) 6 t.0 in (omega arith, omega arith, t.1)
+-- a table that is the levels of a bap has so many entries, and its entry is the level of the code
+module _ (table : List Float) (L : ℕ) (e : table ≡ levels L) where
+  pub levels-long : length table ≡ L
+  unfolding levels
+  levels-long = rw e (length-levels_from L L 0)
+
+  pub level-read : (k : ℕ) → k < L → get_or table k nan ≡ level L k
+  level-read k h = rw e (levels-at L k h)

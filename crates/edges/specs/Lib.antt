@@ -1,4 +1,2 @@
--- The starred cases of document 01, "Edges"; of these the statement is to be read. First what a reader must believe.
+-- The starred cases of document 01, "Edges"; of these the statement is to be read.
 pub mod Starred
--- Then what follows from it: what the test program prints of the tables.
-pub mod Table

@@ -1,14 +1,13 @@
 -- The starred cases of document 01, "Edges", as one list: what the definitions of the calls answer, and what the papers publish (document 02, W4,
 -- changes the case with a short last span).
--- A call's case is its whole answer: the refusal's number beside the value, and the buffer that the call leaves.
-use Rattle.std.specs.Prelude.{ℕ, ◌≡◌, refl, Bool, true, false, List, [], ◌∷◌, map, eqb, ℤ, pos, neg_ℤ, negsuc, length}
+-- A call's case is its whole answer: what it gives or why it was turned back, and the buffer that the call leaves.
+use Rattle.std.specs.Prelude.{ℕ, ◌≡◌, refl, Bool, true, false, List, [], ◌∷◌, map, eqb, ℤ, pos, neg_ℤ, negsuc, length, Result, Ok}
 use Rattle.std.specs.Float.{fin}
 use Rattle.std.specs.Float.Ieee.{of_bits, mul, lt, of_int}
-use Rattle.bits.specs.Answer.{gives, stored, output_of}
+use Rattle.bits.specs.Answer.{stored, output_of}
 use Rattle.bits.specs.Bytes.{bytes_from, bytes_of, after}
 use Rattle.bits.specs.Field.{bit_val}
-use Rattle.bits.specs.Refusal as refusal
-use Rattle.bits.specs.declared.answer.Answer.{Answer}
+use Rattle.bits.specs.declared.refusal.Refusal.{Refusal}
 use Rattle.excitation.specs.BandPsd.{logadd}
 use Rattle.masking.specs.Delta.{delta}
 use Rattle.mantissas.specs.Calls.{one_length, write_answer}
@@ -18,7 +17,7 @@ use Rattle.quantiser.specs.Code.{quantised as mantissaAnswer}
 use Rattle.shaping.specs.Extract.{extracted}
 use Rattle.shaping.specs.Groups.{groups_answer}
 use Rattle.shaping.specs.D15.{backward, forward, limited}
-use Rattle.shaping.specs.Passes.{preprocess_refusal, preprocessed, quantise_refusal, quantised}
+use Rattle.shaping.specs.Passes.{preprocess_check, preprocessed, quantise_check, quantised}
 use Rattle.shaping.specs.Spans.{least, leasts, span_leasts, copies, spread, shared, spanned}
 use Rattle.tables.specs.Entry.{entry}
 use Rattle.tables.specs.Masking.{latab}
@@ -27,18 +26,18 @@ use Rattle.tables.specs.Quantizer.{quantization_bits}
 pub data Case : Type 0 where
   -- a number of the allocation, which has no call of its own
   number : ℤ → Case
-  -- the refusal's number and the value
-  answers : Answer → Case
-  -- the refusal's number, and the exponents that are left
-  leaves : ℕ → List ℕ → Case
-  -- the refusal's number and the number of bits, the bits, and the output that is left
-  writes : Answer → List Bool → List ℕ → Case
+  -- the value, or the refusal
+  answers : Result ℕ Refusal → Case
+  -- whether it was turned back, and the exponents that are left
+  leaves : Result Unit Refusal → List ℕ → Case
+  -- the number of bits or the refusal, the bits, and the output that is left
+  writes : Result ℕ Refusal → List Bool → List ℕ → Case
 
 abbrev pub preprocess : List ℕ → Case
-preprocess exp = leaves (preprocess_refusal exp) (preprocessed exp)
+preprocess exp = leaves (preprocess_check exp) (preprocessed exp)
 
 abbrev pub quantise : ℕ → List ℕ → Case
-quantise span exp = leaves (quantise_refusal span exp) (quantised span exp)
+quantise span exp = leaves (quantise_check span exp) (quantised span exp)
 
 abbrev pub groups : ℕ → ℕ → Case
 groups end span = answers (groups_answer end span)
@@ -76,16 +75,16 @@ computed =
 
 abbrev pub published : List (List Case)
 published =
-    map (leaves refusal.accepted) ((15 ∷ 17 ∷ 19 ∷ 21 ∷ 23 ∷ 24 ∷ 24 ∷ []) ∷ (2 ∷ 0 ∷ 2 ∷ []) ∷ (15 ∷ []) ∷ [] ∷ [])
-    ∷ map (leaves refusal.accepted) ((6 ∷ 4 ∷ 4 ∷ 2 ∷ 2 ∷ []) ∷ (6 ∷ 4 ∷ 4 ∷ 2 ∷ 2 ∷ 2 ∷ []) ∷ [])
-    ∷ map (λ n. answers (gives n)) (84 ∷ 42 ∷ 21 ∷ 13 ∷ 7 ∷ 4 ∷ [])
+    map (leaves (Ok tt)) ((15 ∷ 17 ∷ 19 ∷ 21 ∷ 23 ∷ 24 ∷ 24 ∷ []) ∷ (2 ∷ 0 ∷ 2 ∷ []) ∷ (15 ∷ []) ∷ [] ∷ [])
+    ∷ map (leaves (Ok tt)) ((6 ∷ 4 ∷ 4 ∷ 2 ∷ 2 ∷ []) ∷ (6 ∷ 4 ∷ 4 ∷ 2 ∷ 2 ∷ 2 ∷ []) ∷ [])
+    ∷ map (λ n. answers (Ok n)) (84 ∷ 42 ∷ 21 ∷ 13 ∷ 7 ∷ 4 ∷ [])
     ∷ map (λ n. number (pos n)) (64 ∷ 65 ∷ 3072 ∷ [])
     ∷ map number (neg_ℤ (pos 512) ∷ neg_ℤ (pos 128) ∷ pos 128 ∷ pos 512 ∷ [])
-    ∷ map (λ n. answers (gives n)) (16 ∷ 15 ∷ 31 ∷ [])
+    ∷ map (λ n. answers (Ok n)) (16 ∷ 15 ∷ 31 ∷ [])
     -- zero bits to the byte: 10011000 11000000 and 11011100
-    ∷ (writes (gives 10) (bits (1 ∷ 0 ∷ 0 ∷ 1 ∷ 1 ∷ 0 ∷ 0 ∷ 0 ∷ 1 ∷ 1 ∷ [])) (152 ∷ 192 ∷ 255 ∷ [])
-    ∷ writes (gives 7) (bits (1 ∷ 1 ∷ 0 ∷ 1 ∷ 1 ∷ 1 ∷ 0 ∷ [])) (220 ∷ 255 ∷ []) ∷ [])
-    ∷ map (λ n. answers (gives n)) (10 ∷ 24 ∷ 0 ∷ [])
+    ∷ (writes (Ok 10) (bits (1 ∷ 0 ∷ 0 ∷ 1 ∷ 1 ∷ 0 ∷ 0 ∷ 0 ∷ 1 ∷ 1 ∷ [])) (152 ∷ 192 ∷ 255 ∷ [])
+    ∷ writes (Ok 7) (bits (1 ∷ 1 ∷ 0 ∷ 1 ∷ 1 ∷ 1 ∷ 0 ∷ [])) (220 ∷ 255 ∷ []) ∷ [])
+    ∷ map (λ n. answers (Ok n)) (10 ∷ 24 ∷ 0 ∷ [])
     ∷ []
 
 pub starred-cases : computed ≡ published

@@ -1,10 +1,11 @@
-// The test program. It prints, group by group, what the standard and document 01 publish; the file `stdout` says what that must be, and
-// is made from the papers, not by this program. A group is a module with one function `all`.
+// The test program. It prints the tables that the standard publishes; the file `stdout` says what that must be, and is made from the papers,
+// not by this program.
 #![tactic(auto)]
 
-mod print;
 mod tables_printed;
 
-fn main(rt: HostRuntime) -> std::io::Result<()> {
+use std::io;
+
+fn main(rt: HostRuntime) -> io::Result<()> {
     tables_printed::all(&rt)
 }

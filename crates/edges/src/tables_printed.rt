@@ -1,217 +1,135 @@
 // Prints the published tables of A/52 7.2.3 and 7.3 as docs/a52-tables.txt has them: a title, then rows of ten entries behind the index
 // of the first, hexadecimal where the standard prints that. A level of 7.3 is printed as the bits of its f32.
-ghost use Rattle.std.specs.Prelude.{◌≡◌, ◌+◌, ◌≤◌, ◌<◌, min, length};
-ghost use Rattle.edges.specs.Table.{size_of, value_of};
-ghost use Rattle.edges.specs.declared.tables_printed.Table.TheVariants.{Level};
+ghost use Rattle.std.specs.Prelude.{◌≡◌, ◌≤◌, ◌<◌, length};
+ghost use Rattle.tables.specs.Quantizer.{level_count};
 
-use crate::print::{put_decimal, put_hex, put_text, write_line};
+use std::array::from_fn;
+use std::io;
 
-// Which table an entry is read from: HTH by its fscod, the levels by their bap.
-#[derive(Clone, Copy)]
-pub enum Table {
-    Slowdec,
-    Fastdec,
-    Slowgain,
-    Dbpbtab,
-    Floortab,
-    Fastgain,
-    Bndtab,
-    Bndsz,
-    Masktab,
-    Latab,
-    Hth(u8),
-    Baptab,
-    QuantizationBits,
-    Level(u8),
-}
-
-// The bits of a level.
-fn level_bits(bap: u8, i: usize) -> u64
-    requires { i < size_of (Level bap) }
-    ensures { result ≡ value_of (Level bap) i }
-{
-    f32::to_bits(tables::mant_level(bap, i as u16)) as u64
-}
-
-// One entry, read by the table's own function.
-fn value(which: Table, i: usize) -> u64
-    requires { i < size_of which }
-    ensures { result ≡ value_of which i }
-{
-    match which {
-        Table::Slowdec => tables::slowdec(i as u8) as u64,
-        Table::Fastdec => tables::fastdec(i as u8) as u64,
-        Table::Slowgain => tables::slowgain(i as u8) as u64,
-        Table::Dbpbtab => tables::dbpbtab(i as u8) as u64,
-        Table::Floortab => tables::floortab(i as u8) as u64,
-        Table::Fastgain => tables::fastgain(i as u8) as u64,
-        Table::Bndtab => tables::bndtab(i) as u64,
-        Table::Bndsz => tables::bndsz(i) as u64,
-        Table::Masktab => tables::masktab(i) as u64,
-        Table::Latab => tables::latab(i) as u64,
-        Table::Hth(fscod) => tables::hth(fscod, i) as u64,
-        Table::Baptab => tables::baptab(i) as u64,
-        Table::QuantizationBits => tables::quantization_bits(i as u8) as u64,
-        Table::Level(bap) => level_bits(bap, i),
+// Prints an entry behind a blank: in hexadecimal with so many digits, or in decimal.
+fn print_entry(rt: &impl Print, n: u64, digits: Option<usize>) -> io::Result<()> {
+    match digits {
+        Some(digits) => print!(rt; " 0x{n:0digits$x}"),
+        None => print!(rt; " {n}"),
     }
 }
 
-// Puts the index of a row's first entry, right-aligned in four places, and a colon.
-fn put_index(line: &mut [u8], i: usize) -> usize
-    requires { 32 ≤ length line.old }
-    ensures { result ≤ 25 }
-{
-    let blank = [b' '; 4];
-    let at = put_text(line, 0, &blank[..places_left(i)]);
-    let end = put_decimal(line, at, i as u64);
-    put_text(line, end, b":")
-}
-
-// How many of four places stand free before an index.
-fn places_left(i: usize) -> usize
-    ensures { result ≤ 4 }
-{
-    if i < 10 {
-        3
-    } else if i < 100 {
-        2
-    } else {
-        1
-    }
-}
-
-// Puts an entry behind a blank: in decimal where `digits` is 0, else in hexadecimal with so many digits.
-fn put_entry(line: &mut [u8], at: usize, n: u64, digits: usize) -> usize
-    requires { at + 24 ≤ length line.old }
-    ensures { result ≤ at + 24 }
-{
-    if digits == 0 {
-        let next = put_text(line, at, b" ");
-        put_decimal(line, next, n)
-    } else {
-        let next = put_text(line, at, b" 0x");
-        put_hex(line, next, n, digits)
-    }
-}
-
-// Prints the entries from `first` to `end` in a row.
-fn print_row(
+// Prints entries in a row, behind the index of the first.
+fn print_row<T: Copy + Into<u64>>(
     rt: &impl Print,
-    which: Table,
     first: usize,
-    end: usize,
-    digits: usize,
-) -> std::io::Result<()>
-    requires { (end ≤ size_of which) × (end ≤ first + 10) }
-{
-    let mut line = [0u8; 320];
-    let mut at = put_index(&mut line, first);
-    let mut i = first;
-    while i < end {
-        at = put_entry(&mut line, at, value(which, i), digits);
-        i += 1;
-    }
-    write_line(rt, &line[..at])
-}
-
-// Prints a table of `count` entries: its title, its rows, an empty line.
-fn print_table(
-    rt: &impl Print,
-    title: &str,
-    which: Table,
-    count: usize,
-    digits: usize,
-) -> std::io::Result<()>
-    requires { (count ≤ size_of which) × (count ≤ 256) }
-{
-    println!(rt; "{title}")?;
-    let mut first = 0;
-    while first < count {
-        print_row(rt, which, first, least(first + 10, count), digits)?;
-        first += 10;
+    entries: &[T],
+    digits: Option<usize>,
+) -> io::Result<()> {
+    print!(rt; "{first:4}:")?;
+    for &entry in entries {
+        print_entry(rt, entry.into(), digits)?;
     }
     println!(rt; "")
 }
 
-fn least(a: usize, b: usize) -> usize
-    ensures { result ≡ min a b }
+// Prints a table: its title, its rows, an empty line.
+fn print_table<T: Copy + Into<u64>>(
+    rt: &impl Print,
+    title: &str,
+    entries: &[T],
+    digits: Option<usize>,
+) -> io::Result<()>
+    requires { length entries.now ≤ 256 }
 {
-    if a < b { a } else { b }
+    println!(rt; "{title}")?;
+    for (i, row) in entries.chunks(10).enumerate() {
+        print_row(rt, 10 * i, row, digits)?;
+    }
+    println!(rt; "")
 }
 
-fn parameters(rt: &impl Print) -> std::io::Result<()> {
-    print_table(rt, "Table 7.6 slowdec (4 entries)", Table::Slowdec, 4, 2)?;
-    print_table(rt, "Table 7.7 fastdec (4 entries)", Table::Fastdec, 4, 2)?;
-    print_table(rt, "Table 7.8 slowgain (4 entries)", Table::Slowgain, 4, 3)?;
-    print_table(rt, "Table 7.9 dbpbtab (4 entries)", Table::Dbpbtab, 4, 3)?;
-    print_table(
-        rt,
-        "Table 7.10 floortab (16-bit two's complement: the last is -2048) (8 entries)",
-        Table::Floortab,
-        8,
-        4,
-    )?;
-    print_table(rt, "Table 7.11 fastgain (8 entries)", Table::Fastgain, 8, 3)
+fn parameters(rt: &impl Print) -> io::Result<()> {
+    let title = "Table 7.6 slowdec (4 entries)";
+    print_table(rt, title, tables::slowdec(), Some(2))?;
+    let title = "Table 7.7 fastdec (4 entries)";
+    print_table(rt, title, tables::fastdec(), Some(2))?;
+    let title = "Table 7.8 slowgain (4 entries)";
+    print_table(rt, title, tables::slowgain(), Some(3))?;
+    let title = "Table 7.9 dbpbtab (4 entries)";
+    print_table(rt, title, tables::dbpbtab(), Some(3))?;
+    let title = "Table 7.10 floortab (16-bit two's complement: the last is -2048) (8 entries)";
+    print_table(rt, title, tables::floortab(), Some(4))?;
+    let title = "Table 7.11 fastgain (8 entries)";
+    print_table(rt, title, tables::fastgain(), Some(3))
 }
 
-fn bands(rt: &impl Print) -> std::io::Result<()> {
-    print_table(rt, "Table 7.12 bndtab (50 entries)", Table::Bndtab, 50, 0)?;
-    print_table(rt, "Table 7.12 bndsz (50 entries)", Table::Bndsz, 50, 0)?;
-    print_table(
-        rt,
-        "Table 7.13 masktab (256 entries)",
-        Table::Masktab,
-        256,
-        0,
+fn bands(rt: &impl Print) -> io::Result<()> {
+    print_table(rt, "Table 7.12 bndtab (50 entries)", tables::bndtab(), None)?;
+    print_table(rt, "Table 7.12 bndsz (50 entries)", tables::bndsz(), None)?;
+    let masktab: [u8; 256] = from_fn(tables::masktab);
+    print_table(rt, "Table 7.13 masktab (256 entries)", &masktab, None)
+}
+
+fn masking(rt: &impl Print) -> io::Result<()> {
+    let latab: [u8; 256] = from_fn(tables::latab);
+    print_table(rt, "Table 7.14 latab (256 entries)", &latab, Some(2))?;
+    let title = "Table 7.15 hth, fscod 0 (48 kHz) (50 entries)";
+    print_table(rt, title, tables::hth(0), Some(4))?;
+    let title = "Table 7.15 hth, fscod 1 (44.1 kHz) (50 entries)";
+    print_table(rt, title, tables::hth(1), Some(4))?;
+    let title = "Table 7.15 hth, fscod 2 (32 kHz) (50 entries)";
+    print_table(rt, title, tables::hth(2), Some(4))
+}
+
+fn quantizer(rt: &impl Print) -> io::Result<()> {
+    print_table(rt, "Table 7.16 baptab (64 entries)", tables::baptab(), None)?;
+    let title = "Table 7.18 bits of a mantissa by bap (a group's bits for 1, 2, 4)";
+    print_table(rt, title, tables::quantization_bits(), None)
+}
+
+// The bits of a bap's levels.
+fn level_bits<const L: usize>(bap: u8) -> [u32; L]
+    requires { (1 ≤ bap) × (bap ≤ 5) × (L ≡ level_count bap) }
+{
+    from_fn(
+        |i: usize|
+            requires { (1 ≤ bap) × (bap ≤ 5) × (i < level_count bap) }
+        { f32::to_bits(tables::mant_level(bap)[i]) },
     )
 }
 
-fn masking(rt: &impl Print) -> std::io::Result<()> {
-    print_table(rt, "Table 7.14 latab (256 entries)", Table::Latab, 256, 2)?;
+#[tactic(auto, unfolding(tables::specs::Quantizer::level_count))]
+fn levels(rt: &impl Print) -> io::Result<()> {
     print_table(
         rt,
-        "Table 7.15 hth, fscod 0 (48 kHz) (50 entries)",
-        Table::Hth(0),
-        50,
-        4,
+        "Table 7.19 bap 1, 3 levels",
+        &level_bits::<3>(1),
+        Some(8),
     )?;
     print_table(
         rt,
-        "Table 7.15 hth, fscod 1 (44.1 kHz) (50 entries)",
-        Table::Hth(1),
-        50,
-        4,
+        "Table 7.20 bap 2, 5 levels",
+        &level_bits::<5>(2),
+        Some(8),
     )?;
     print_table(
         rt,
-        "Table 7.15 hth, fscod 2 (32 kHz) (50 entries)",
-        Table::Hth(2),
-        50,
-        4,
-    )
-}
-
-fn quantizer(rt: &impl Print) -> std::io::Result<()> {
-    print_table(rt, "Table 7.16 baptab (64 entries)", Table::Baptab, 64, 0)?;
+        "Table 7.21 bap 3, 7 levels",
+        &level_bits::<7>(3),
+        Some(8),
+    )?;
     print_table(
         rt,
-        "Table 7.18 bits of a mantissa by bap (a group's bits for 1, 2, 4)",
-        Table::QuantizationBits,
-        16,
-        0,
+        "Table 7.22 bap 4, 11 levels",
+        &level_bits::<11>(4),
+        Some(8),
+    )?;
+    print_table(
+        rt,
+        "Table 7.23 bap 5, 15 levels",
+        &level_bits::<15>(5),
+        Some(8),
     )
-}
-
-fn levels(rt: &impl Print) -> std::io::Result<()> {
-    print_table(rt, "Table 7.19 bap 1, 3 levels", Table::Level(1), 3, 8)?;
-    print_table(rt, "Table 7.20 bap 2, 5 levels", Table::Level(2), 5, 8)?;
-    print_table(rt, "Table 7.21 bap 3, 7 levels", Table::Level(3), 7, 8)?;
-    print_table(rt, "Table 7.22 bap 4, 11 levels", Table::Level(4), 11, 8)?;
-    print_table(rt, "Table 7.23 bap 5, 15 levels", Table::Level(5), 15, 8)
 }
 
 // Prints all tables in the standard's order.
-pub(crate) fn all(rt: &impl Print) -> std::io::Result<()> {
+pub(crate) fn all(rt: &impl Print) -> io::Result<()> {
     parameters(rt)?;
     bands(rt)?;
     masking(rt)?;

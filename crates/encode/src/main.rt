@@ -7,7 +7,9 @@ ghost use Rattle.std.specs.Prelude.{◌≤◌, IfOk, length};
 use std::io;
 use std::io::Read;
 
-// Reads until the buffer is full or the input ends, and returns how many bytes were read.
+// Reads until the buffer is full or the input ends, and returns how many bytes were read. How far one read comes is the reader's choice, so the
+// loop is a `while`. std's `read_exact` refuses a short input, and `read_to_end` needs a heap; `replay` has the same lines, since no crate is
+// below both programs alone.
 fn read_full(from: &mut impl Read, buf: &mut [u8]) -> io::Result<usize>
     ensures { IfOk result (λ n. n ≤ length buf.new) }
 {
@@ -34,11 +36,12 @@ fn lines(rt: &impl Print, counts: [u32; 12]) -> io::Result<()> {
 fn main(rt: HostRuntime) -> io::Result<()> {
     let mut input = [0u8; 103000];
     let n = read_full(&mut rt.reader(), &mut input)?;
-    let answer = input::encode_input(&input[..n]);
-    if answer.refusal != 0 {
-        return println!(rt; "refused {}", answer.refusal);
+    match input::encode_input(&input[..n]) {
+        Ok(body) => {
+            lines(&rt, body.counts)?;
+            // the sum of the twelve: frame/specs/Theorems.antt, `body-count`
+            println!(rt; "total {}", body.bits)
+        }
+        Err(refusal) => println!(rt; "refused {refusal}"),
     }
-    lines(&rt, answer.counts)?;
-    // the sum of the twelve: frame/specs/Theorems.antt, `body-count`
-    println!(rt; "total {}", answer.bits)
 }

@@ -1,5 +1,5 @@
 -- Laws of the bands in order: where a band ends and the next one starts, and what lies behind the last one.
-use Rattle.std.specs.Prelude.{ℕ, ◌+◌, min, ◌≤◌, ◌<◌, List, ◌≡◌, get_or}
+use Rattle.std.specs.Prelude.{ℕ, ◌+◌, min, ◌≤◌, ◌<◌, List, ◌≡◌, refl, get_or}
 use Rattle.std.proofs.Common.{sym, ◌∙◌, arith}
 use Rattle.std.proofs.Math.Decide.{dec_lt}
 use Rattle.tables.specs.Bands.{bndtab, bndsz}
@@ -9,7 +9,11 @@ use Rattle.excitation.specs.BandPsd.{lastbin, bndpsd}
 use Rattle.excitation.specs.BandPsdLaws.{bndpsd-none, bndpsd-past}
 use Rattle.excitation.specs.BandOrder.{Bands, Starts, NextBin}
 
--- the end of the band as the code finds it
+-- the start and the end of the band as the code finds them
+pub starts_at : (band bin : ℕ) (table : List ℕ) → table ≡ bndtab → bin ≡ get_or table band 0 → bin ≡ entry bndtab band
+unfolding entry
+starts_at band bin table t q = q ∙ rw t refl
+
 pub ends_at : (end band bin next : ℕ) (table : List ℕ) → bin ≡ entry bndtab band → table ≡ bndsz → next ≡ min (bin + get_or table band 0) end → next ≡ lastbin end band
 unfolding lastbin entry
 ends_at end band bin next table q t n = n ∙ rw (t, q)

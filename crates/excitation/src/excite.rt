@@ -1,151 +1,62 @@
-// The excitations of all bands (A/52 7.2.2.4), in three stretches: bands 0 to 6, where `begin` is looked for; 7 to 21, where lowcomp counts;
-// and the rest.
-ghost use Rattle.std.specs.Prelude.{◌≡◌, ℕ, ◌<◌, ◌≤◌, get_or, length, take};
+// The excitations of all bands (A/52 7.2.2.4), in stretches: bands 0 to 6, where `begin` is looked for; 7 to 21, where lowcomp counts; and the
+// rest.
+ghost use Rattle.std.specs.Prelude.{◌≡◌, ℕ, ◌<◌, ◌≤◌, get_or, take};
 ghost use Rattle.bits.specs.Parts.{tab};
 ghost use Rattle.excitation.specs.Front.{front};
 ghost use Rattle.excitation.specs.Held.{after, excited_by};
 
-use crate::excitation::{
-    LeakParameters, LeakState, begin_leaks, first_leaks, high_leaks, low_leaks,
-};
+use crate::excitation::{LeakParameters, LeakState};
 
-// Bands 0 to 2: before band 3 no leak has begun. Two short loops, so that they can be written out by the compiler.
-fn excite_start(p: LeakParameters, lfe: bool, powers: &[u16; 51], excites: &mut [u16]) -> LeakState
-    requires powers_len { (length powers.now ≡ 51) × (length excites.old ≡ 50) }
-    requires by_index { (k : ℕ) → get_or powers.now k 0 ≤ 8191 }
-    ensures value { result ≡ after p lfe (λ k. get_or powers.now k 0) 3 }
-    ensures excites_after { excites.new ≡ front (excited_by p lfe powers.now) 3 excites.old }
-{
-    let mut leaks = begin_leaks();
-    let mut band = 0;
-    while band < 3 {
-        leaks = first_leaks(
-            p,
-            lfe,
-            leaks,
-            powers[band] as u32,
-            powers[band + 1] as u32,
-            band,
-        );
-        excites[band] = leaks.excite as u16;
-        band += 1;
-    }
-    leaks
-}
-
-// Bands 3 to 6.
-fn excite_first(
+// The bands of one stretch. It is inlined with the stretch's bounds, so that no test on the band is left in its loop.
+#[inline(always)]
+fn excite_stretch(
     p: LeakParameters,
     lfe: bool,
     powers: &[u16; 51],
+    first: usize,
+    behind: usize,
     leaks: LeakState,
-    excites: &mut [u16],
+    excites: &mut [u16; 50],
 ) -> LeakState
-    requires powers_len { (length powers.now ≡ 51) × (length excites.old ≡ 50) }
+    requires le_bands { (first ≤ behind) × (behind ≤ 50) }
     requires by_index { (k : ℕ) → get_or powers.now k 0 ≤ 8191 }
-    requires leaks_value { leaks ≡ after p lfe (λ k. get_or powers.now k 0) 3 }
-    requires excites_value { take 3 excites.old ≡ tab 3 (excited_by p lfe powers.now) }
-    ensures value { result ≡ after p lfe (λ k. get_or powers.now k 0) 7 }
-    ensures excites_after { excites.new ≡ front (excited_by p lfe powers.now) 7 excites.old }
+    requires leaks_value { leaks ≡ after p lfe (λ k. get_or powers.now k 0) first }
+    requires excites_value { take first excites.old ≡ tab first (excited_by p lfe powers.now) }
+    ensures value { result ≡ after p lfe (λ k. get_or powers.now k 0) behind }
+    ensures excites_after { excites.new ≡ front (excited_by p lfe powers.now) behind excites.old }
 {
     let mut leaks = leaks;
-    let mut band = 3;
-    while band < 7 {
-        leaks = first_leaks(
+    for band in first..behind {
+        leaks = leaks.after(
             p,
             lfe,
-            leaks,
-            powers[band] as u32,
-            powers[band + 1] as u32,
+            u32::from(powers[band]),
+            u32::from(powers[band + 1]),
             band,
         );
         excites[band] = leaks.excite as u16;
-        band += 1;
     }
     leaks
 }
 
-// Bands 7 to 21.
-fn excite_low(
-    p: LeakParameters,
-    lfe: bool,
-    powers: &[u16; 51],
-    leaks: LeakState,
-    excites: &mut [u16],
-) -> LeakState
-    requires powers_len { (length powers.now ≡ 51) × (length excites.old ≡ 50) }
-    requires by_index { (k : ℕ) → get_or powers.now k 0 ≤ 8191 }
-    requires leaks_value { leaks ≡ after p lfe (λ k. get_or powers.now k 0) 7 }
-    requires excites_value { take 7 excites.old ≡ tab 7 (excited_by p lfe powers.now) }
-    ensures value { result ≡ after p lfe (λ k. get_or powers.now k 0) 22 }
-    ensures excites_after { excites.new ≡ front (excited_by p lfe powers.now) 22 excites.old }
-{
-    let mut leaks = leaks;
-    let mut band = 7;
-    while band < 22 {
-        leaks = low_leaks(
-            p,
-            lfe,
-            leaks,
-            powers[band] as u32,
-            powers[band + 1] as u32,
-            band,
-        );
-        excites[band] = leaks.excite as u16;
-        band += 1;
-    }
-    leaks
-}
-
-// Bands from 22 on.
-fn excite_high(
-    p: LeakParameters,
-    lfe: bool,
-    powers: &[u16; 51],
-    bands: usize,
-    leaks: LeakState,
-    excites: &mut [u16],
-)
-    requires le_bands { (22 ≤ bands) × (bands ≤ 50) × (length powers.now ≡ 51) × (length excites.old ≡ 50) }
-    requires by_index { (k : ℕ) → get_or powers.now k 0 ≤ 8191 }
-    requires leaks_value { leaks ≡ after p lfe (λ k. get_or powers.now k 0) 22 }
-    requires excites_value { take 22 excites.old ≡ tab 22 (excited_by p lfe powers.now) }
-    ensures { excites.new ≡ front (excited_by p lfe powers.now) bands excites.old }
-{
-    let mut leaks = leaks;
-    let mut band = 22;
-    while band < bands {
-        leaks = high_leaks(
-            p,
-            lfe,
-            leaks,
-            powers[band] as u32,
-            powers[band + 1] as u32,
-            band,
-        );
-        excites[band] = leaks.excite as u16;
-        band += 1;
-    }
-}
-
-// The excitations of the first bands; a channel has 7 of them or more than 22.
+// The excitations of the first bands; a channel has 7 of them or at least 22. Before band 3 no leak has begun: bands 0 to 6 are two short
+// stretches, which the compiler writes out.
 pub fn excite_bands(
     p: LeakParameters,
     lfe: bool,
     powers: &[u16; 51],
     bands: usize,
-    excites: &mut [u16],
+    excites: &mut [u16; 50],
 )
     requires bands_bound { (bands ≤ 50) × (bands < 22 → bands ≡ 7) }
-    requires powers_len { (length powers.now ≡ 51) × (length excites.old ≡ 50) }
     requires by_index { (k : ℕ) → get_or powers.now k 0 ≤ 8191 }
     ensures { excites.new ≡ front (excited_by p lfe powers.now) bands excites.old }
 {
-    let start = excite_start(p, lfe, powers, excites);
-    let first = excite_first(p, lfe, powers, start, excites);
+    let leaks = excite_stretch(p, lfe, powers, 0, 3, LeakState::start(), excites);
+    let leaks = excite_stretch(p, lfe, powers, 3, 7, leaks, excites);
     if bands < 22 {
         return;
     }
-    let low = excite_low(p, lfe, powers, first, excites);
-    excite_high(p, lfe, powers, bands, low, excites);
+    let leaks = excite_stretch(p, lfe, powers, 7, 22, leaks, excites);
+    excite_stretch(p, lfe, powers, 22, bands, leaks, excites);
 }

@@ -4,7 +4,6 @@
 
 pub mod excitation;
 pub mod excite;
-pub mod number;
 pub mod psd_integration;
 
 pub use excitation::LeakParameters;

@@ -1,18 +1,20 @@
 // `write_exponents_grouped` and `read_exponents_grouped`: the output, or what is read, starts as bytes of 170, and is shown as a whole.
-use crate::cases::fill;
+ghost use Rattle.std.specs.Prelude.{◌≤◌, length};
+
+use crate::cases::{RULES, Rule, fill};
 use crate::print::{answer, buffer};
 use std::io;
 
-fn shape(exp: &mut [u8], rule: usize, grpsize: usize) {
+fn shape(exp: &mut [u8], rule: Rule, grpsize: usize) {
     fill(exp, rule);
-    shaping::preprocess_d15(exp);
-    shaping::quantise_exponents_to_grpsize(exp, grpsize);
+    // A call that is turned back leaves the buffer, which then shows it.
+    let _ = shaping::preprocess_d15(exp);
+    let _ = shaping::quantise_exponents_to_grpsize(exp, grpsize);
 }
 
-fn shape_below(exp: &mut [u8], end: usize, rule: usize, grpsize: usize) {
-    if exp.len() < end {
-        return;
-    }
+fn shape_below(exp: &mut [u8], end: usize, rule: Rule, grpsize: usize)
+    requires { end ≤ length exp.old }
+{
     shape(&mut exp[0..end], rule, grpsize);
 }
 
@@ -24,10 +26,9 @@ fn write(
     exp: &[u8],
     end: usize,
     grpsize: usize,
-) -> io::Result<()> {
-    if out.len() < room {
-        return Ok(());
-    }
+) -> io::Result<()>
+    requires { room ≤ length out.old }
+{
     answer(
         rt,
         exponents::write_exponents_grouped(&mut out[0..room], exp, end, grpsize),
@@ -36,11 +37,10 @@ fn write(
 }
 
 // Reads `given` bytes of the input.
-fn read(rt: &impl Print, input: &[u8], end: usize, grpsize: usize, given: usize) -> io::Result<()> {
+fn read(rt: &impl Print, input: &[u8], end: usize, grpsize: usize, given: usize) -> io::Result<()>
+    requires { given ≤ length input.now }
+{
     let mut exp = [170u8; 256];
-    if input.len() < given {
-        return Ok(());
-    }
     answer(
         rt,
         exponents::read_exponents_grouped(&input[0..given], end, grpsize, &mut exp),
@@ -52,12 +52,14 @@ fn read(rt: &impl Print, input: &[u8], end: usize, grpsize: usize, given: usize)
 // Writes exponents shaped by a rule to `room` bytes, and reads `given` bytes of them.
 fn coded(
     rt: &impl Print,
-    rule: usize,
+    rule: Rule,
     end: usize,
     grpsize: usize,
     room: usize,
     given: usize,
-) -> io::Result<()> {
+) -> io::Result<()>
+    requires { (end ≤ 256) × (room ≤ 80) × (given ≤ 80) }
+{
     let mut exp = [0u8; 256];
     let mut out = [170u8; 80];
     print!(rt; "code {rule} {end} {grpsize} {room} {given}:")?;
@@ -67,20 +69,16 @@ fn coded(
 }
 
 // With as many bytes as the bits need, and one less or more.
-fn sized(rt: &impl Print, rule: usize, end: usize, grpsize: usize, size: usize) -> io::Result<()> {
-    if size == 0 {
-        return Ok(());
-    }
-    if 79 < size {
-        return Ok(());
-    }
+fn sized(rt: &impl Print, rule: Rule, end: usize, grpsize: usize, size: usize) -> io::Result<()>
+    requires { (end ≤ 256) × (1 ≤ size) × (size ≤ 79) }
+{
     coded(rt, rule, end, grpsize, size, size)?;
     coded(rt, rule, end, grpsize, size - 1, size)?;
     coded(rt, rule, end, grpsize, size, size - 1)?;
     coded(rt, rule, end, grpsize, size + 1, size + 1)
 }
 
-fn ruled(rt: &impl Print, rule: usize) -> io::Result<()> {
+fn ruled(rt: &impl Print, rule: Rule) -> io::Result<()> {
     sized(rt, rule, 7, 1, 3)?;
     sized(rt, rule, 7, 2, 2)?;
     sized(rt, rule, 7, 4, 2)?;
@@ -96,29 +94,31 @@ fn ruled(rt: &impl Print, rule: usize) -> io::Result<()> {
 }
 
 pub(crate) fn rules(rt: &impl Print) -> io::Result<()> {
-    ruled(rt, 0)?;
-    ruled(rt, 1)?;
-    ruled(rt, 2)?;
-    ruled(rt, 3)
+    for rule in RULES {
+        ruled(rt, rule)?;
+    }
+    Ok(())
 }
 
 // Ends and spans that are refused.
 pub(crate) fn refused(rt: &impl Print) -> io::Result<()> {
-    coded(rt, 2, 0, 1, 80, 80)?;
-    coded(rt, 2, 6, 1, 80, 80)?;
-    coded(rt, 2, 8, 1, 80, 80)?;
-    coded(rt, 2, 36, 1, 80, 80)?;
-    coded(rt, 2, 38, 1, 80, 80)?;
-    coded(rt, 2, 39, 2, 80, 80)?;
-    coded(rt, 2, 252, 4, 80, 80)?;
-    coded(rt, 2, 254, 4, 80, 80)?;
-    coded(rt, 2, 256, 1, 80, 80)?;
-    coded(rt, 2, 37, 3, 80, 80)?;
-    coded(rt, 2, 37, 0, 80, 80)
+    coded(rt, Rule::Falling, 0, 1, 80, 80)?;
+    coded(rt, Rule::Falling, 6, 1, 80, 80)?;
+    coded(rt, Rule::Falling, 8, 1, 80, 80)?;
+    coded(rt, Rule::Falling, 36, 1, 80, 80)?;
+    coded(rt, Rule::Falling, 38, 1, 80, 80)?;
+    coded(rt, Rule::Falling, 39, 2, 80, 80)?;
+    coded(rt, Rule::Falling, 252, 4, 80, 80)?;
+    coded(rt, Rule::Falling, 254, 4, 80, 80)?;
+    coded(rt, Rule::Falling, 256, 1, 80, 80)?;
+    coded(rt, Rule::Falling, 37, 3, 80, 80)?;
+    coded(rt, Rule::Falling, 37, 0, 80, 80)
 }
 
 // Exponents as they are, to `room` bytes.
-fn written(rt: &impl Print, exp: &[u8], end: usize, grpsize: usize, room: usize) -> io::Result<()> {
+fn written(rt: &impl Print, exp: &[u8], end: usize, grpsize: usize, room: usize) -> io::Result<()>
+    requires { room ≤ 4 }
+{
     let mut out = [170u8; 4];
     print!(rt; "write")?;
     buffer(rt, exp)?;
@@ -154,10 +154,9 @@ fn read_to(
     input: &[u8],
     end: usize,
     grpsize: usize,
-) -> io::Result<()> {
-    if exp.len() < room {
-        return Ok(());
-    }
+) -> io::Result<()>
+    requires { room ≤ length exp.old }
+{
     answer(
         rt,
         exponents::read_exponents_grouped(input, end, grpsize, &mut exp[0..room]),
@@ -165,7 +164,9 @@ fn read_to(
     buffer(rt, exp)
 }
 
-fn given(rt: &impl Print, input: &[u8], end: usize, grpsize: usize, room: usize) -> io::Result<()> {
+fn given(rt: &impl Print, input: &[u8], end: usize, grpsize: usize, room: usize) -> io::Result<()>
+    requires { room ≤ 8 }
+{
     let mut exp = [170u8; 8];
     print!(rt; "read")?;
     buffer(rt, input)?;

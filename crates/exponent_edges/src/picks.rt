@@ -1,9 +1,13 @@
 // `extract_exponent`, `ngrps_for_strategy` and `pick_strategy_for_block`.
+ghost use Rattle.std.specs.Prelude.{◌≤◌};
+
+use crate::print::answer;
 use std::io;
 
 fn extract(rt: &impl Print, number: usize, x: f32) -> io::Result<()> {
-    let given = shaping::extract_exponent(x);
-    println!(rt; "extract {number}: {} {}", given.refusal, given.value)
+    print!(rt; "extract {number}:")?;
+    answer(rt, shaping::extract_exponent(x).map(u32::from))?;
+    println!(rt; "")
 }
 
 // 2^-10 - 2^-34, 2^-25, 1 and others next to a power of two; 0, infinity and what is no number.
@@ -27,8 +31,9 @@ pub(crate) fn extracted(rt: &impl Print) -> io::Result<()> {
 }
 
 fn group_count(rt: &impl Print, end: usize, grpsize: usize) -> io::Result<()> {
-    let given = shaping::ngrps_for_strategy(end, grpsize);
-    println!(rt; "groups {end} {grpsize}: {} {}", given.refusal, given.value)
+    print!(rt; "groups {end} {grpsize}:")?;
+    answer(rt, shaping::ngrps_for_strategy(end, grpsize))?;
+    println!(rt; "")
 }
 
 fn groups_at(rt: &impl Print, end: usize) -> io::Result<()> {
@@ -60,22 +65,20 @@ pub(crate) fn top(i: usize, high: u8, last: u8) -> u8 {
 }
 
 fn tops(exp: &mut [u8], high: u8, last: u8) {
-    for i in 0..exp.len() {
-        exp[i] = top(i, high, last);
+    for (i, entry) in exp.iter_mut().enumerate() {
+        *entry = top(i, high, last);
     }
 }
 
-fn picked(rt: &impl Print, high: u8, last: u8, size: usize, end: usize) -> io::Result<()> {
+fn picked(rt: &impl Print, high: u8, last: u8, size: usize, end: usize) -> io::Result<()>
+    requires { size ≤ 257 }
+{
     let mut exp = [0u8; 257];
-    if 257 < size {
-        return Ok(());
-    }
     tops(&mut exp, high, last);
+    print!(rt; "pick {high} {last} {size} {end}:")?;
     let given = shaping::pick_strategy_for_block(&exp[0..size], end);
-    println!(rt;
-        "pick {high} {last} {size} {end}: {} {}",
-        given.refusal, given.value
-    )
+    answer(rt, given.map(|strategy| u32::from(strategy.code())))?;
+    println!(rt; "")
 }
 
 // Of 252 bins, 62 and bin 250 lie above their span: 62 times 2 and 4 are a cost of 128, with 5 it is 129. 62 times 3 and 4 are 190, which is

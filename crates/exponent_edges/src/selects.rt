@@ -1,6 +1,10 @@
 // `select_exp_strategies_per_end`.
+ghost use Rattle.std.specs.Prelude.{◌≤◌};
+
 use crate::picks::top;
 use crate::print::buffer;
+use bits::Refusal;
+use elements::ExponentSet;
 use std::io;
 
 // Smooth, rough and rougher parts of 256 in turn, so that each strategy is picked.
@@ -16,28 +20,49 @@ fn part_entry(i: usize) -> u8 {
 }
 
 fn parts(exp: &mut [u8]) {
-    for i in 0..exp.len() {
-        exp[i] = part_entry(i);
+    for (i, entry) in exp.iter_mut().enumerate() {
+        *entry = part_entry(i);
     }
 }
 
-// The refusal's number, then the strategies.
-fn answer(rt: &impl Print, exps: &[u8], ends: &[u16]) -> io::Result<()> {
-    let mut refusal = 99; // no refusal, so that a number that is not stored shows
-    let t = shaping::select_exp_strategies_per_end(exps, ends, &mut refusal);
-    print!(rt; " {refusal}")?;
-    for row in &t {
-        buffer(rt, row)?;
+// The codes of a channel's sets.
+fn codes(rt: &impl Print, row: &[ExponentSet]) -> io::Result<()> {
+    for set in row {
+        print!(rt; " {}", set.code())?;
     }
     Ok(())
 }
 
-// So many exponents; how many ends there are is printed too.
-fn select(rt: &impl Print, size: usize, ends: &[u16]) -> io::Result<()> {
-    let mut exps = [0u8; 10752];
-    if 10752 < size {
-        return Ok(());
+// Six channels with no code, which is how a call that is turned back is shown.
+fn no_codes(rt: &impl Print, refusal: Refusal) -> io::Result<()> {
+    print!(rt; " {refusal}")?;
+    for _ in 0..6 {
+        buffer(rt, &[0; 6])?;
     }
+    Ok(())
+}
+
+fn all_codes(rt: &impl Print, table: &[[ExponentSet; 6]]) -> io::Result<()> {
+    print!(rt; " 0")?;
+    for row in table {
+        codes(rt, row)?;
+    }
+    Ok(())
+}
+
+// The number of the answer, then the strategies.
+fn answer(rt: &impl Print, exps: &[u8], ends: &[u16]) -> io::Result<()> {
+    match shaping::select_exp_strategies_per_end(exps, ends) {
+        Ok(table) => all_codes(rt, &table),
+        Err(refusal) => no_codes(rt, refusal),
+    }
+}
+
+// So many exponents; how many ends there are is printed too.
+fn select(rt: &impl Print, size: usize, ends: &[u16]) -> io::Result<()>
+    requires { size ≤ 10752 }
+{
+    let mut exps = [0u8; 10752];
     parts(&mut exps);
     print!(rt; "select {size} {}:", ends.len())?;
     answer(rt, &exps[0..size], ends)?;

@@ -1,19 +1,19 @@
 // `preprocess_d15` and `quantise_exponents_to_grpsize`.
-use crate::cases::fill;
-use crate::print::buffer;
+ghost use Rattle.std.specs.Prelude.{◌≤◌};
+
+use crate::cases::{RULES, Rule, fill};
+use crate::print::{buffer, outcome};
 use std::io;
 
 // Shapes for D15: the refusal's number, and what is then in the buffer.
 fn show_d15(rt: &impl Print, exp: &mut [u8]) -> io::Result<()> {
-    let refusal = shaping::preprocess_d15(exp);
-    print!(rt; " {refusal}")?;
+    outcome(rt, shaping::preprocess_d15(exp))?;
     buffer(rt, exp)
 }
 
 // The same by spans.
 fn show_spans(rt: &impl Print, exp: &mut [u8], grpsize: usize) -> io::Result<()> {
-    let refusal = shaping::quantise_exponents_to_grpsize(exp, grpsize);
-    print!(rt; " {refusal}")?;
+    outcome(rt, shaping::quantise_exponents_to_grpsize(exp, grpsize))?;
     buffer(rt, exp)
 }
 
@@ -69,7 +69,7 @@ pub(crate) fn starred(rt: &impl Print) -> io::Result<()> {
 }
 
 // Shaped for D15, then by spans; and by spans at once.
-fn shaped(rt: &impl Print, exp: &mut [u8], rule: usize, grpsize: usize) -> io::Result<()> {
+fn shaped(rt: &impl Print, exp: &mut [u8], rule: Rule, grpsize: usize) -> io::Result<()> {
     print!(rt; "shape {} {rule} {grpsize}:", exp.len())?;
     fill(exp, rule);
     show_d15(rt, exp)?;
@@ -79,7 +79,7 @@ fn shaped(rt: &impl Print, exp: &mut [u8], rule: usize, grpsize: usize) -> io::R
     println!(rt; "")
 }
 
-fn spans(rt: &impl Print, exp: &mut [u8], rule: usize) -> io::Result<()> {
+fn spans(rt: &impl Print, exp: &mut [u8], rule: Rule) -> io::Result<()> {
     shaped(rt, exp, rule, 1)?;
     shaped(rt, exp, rule, 2)?;
     shaped(rt, exp, rule, 4)?;
@@ -87,23 +87,22 @@ fn spans(rt: &impl Print, exp: &mut [u8], rule: usize) -> io::Result<()> {
 }
 
 fn rules(rt: &impl Print, exp: &mut [u8]) -> io::Result<()> {
-    spans(rt, exp, 0)?;
-    spans(rt, exp, 1)?;
-    spans(rt, exp, 2)?;
-    spans(rt, exp, 3)
+    for rule in RULES {
+        spans(rt, exp, rule)?;
+    }
+    Ok(())
 }
 
-pub(crate) fn length(rt: &impl Print, n: usize) -> io::Result<()> {
+pub(crate) fn length(rt: &impl Print, n: usize) -> io::Result<()>
+    requires { n ≤ 257 }
+{
     let mut exp = [0u8; 257];
-    if 257 < n {
-        return Ok(());
-    }
     rules(rt, &mut exp[0..n])
 }
 
 pub(crate) fn lengths(rt: &impl Print, sizes: &[u8]) -> io::Result<()> {
     for size in sizes {
-        length(rt, *size as usize)?;
+        length(rt, usize::from(*size))?;
     }
     Ok(())
 }

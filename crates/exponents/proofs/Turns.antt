@@ -2,43 +2,53 @@
 use mathlib.Core.Path.{◌≡◌, refl, ap, ◌∙◌}
 use mathlib.Core.Bool.{Bool, true}
 use mathlib.Core.List.{List, [], ◌∷◌}
-use mathlib.Core.Option.{none, some}
+use Rattle.std.specs.Prelude.{Option, None, Some, ok_or, Result, Ok, Err}
 use Prim.Native.Nat.{ℕ, ◌+◌, ◌≤◌, ◌<◌}
 use native.Mathlib.Omega.{arith}
 use lib.ListN.{length, take, set}
 use lib.Seq.{take_all, length-take-le}
 use Rattle.bits.specs.Field.{read_field}
 use Rattle.bits.specs.Read.{from, Came}
-use Rattle.bits.specs.Refusal as refusal
+use Rattle.bits.specs.declared.refusal.Refusal.{Refusal}
+use Rattle.bits.specs.declared.refusal.Refusal.TheVariants as refusal
 use Rattle.bits.specs.Reading.{ok, fault, or_past, read_bits}
-use Rattle.bits.specs.declared.read.ReadEnd.{ReadEnd}
 use Rattle.sheet.specs.Ranges.{legal_end}
 use Rattle.shaping.specs.Passes.{is_span}
 use Rattle.exponents.specs.ReadShaped.{groups-read}
 use Rattle.exponents.specs.Reading.{with_group, or_bad_group, read_group, read_groups, read_exponents}
 
+-- what `ok_or` says of what it was given
+pub there : (o : Option ℕ) (k : Refusal) (v : ℕ) → Ok v ≡ ok_or o k → o ≡ Some v
+there None k v e = absurd (cc)
+there (Some x) k v e = cc
+
+pub not-there : (o : Option ℕ) (k n : Refusal) → Err n ≡ ok_or o k → o ≡ None
+not-there None k n e = refl
+not-there (Some x) k n e = absurd (cc)
+
 module _ (n g i : ℕ) (x : List ℕ) (bits : List Bool) where
-  pub turn-past : read_field 7 bits ≡ none → read_group n g i x bits ≡ fault refusal.past_input
+  pub turn-past : read_field 7 bits ≡ None → read_group n g i x bits ≡ fault refusal.PastInput
   unfolding read_group read_bits or_past
   turn-past e = rw e
 
-  pub turn-bad : (v : ℕ) (rest : List Bool) → read_field 7 bits ≡ some (v, rest) → with_group n g v x ≡ none → read_group n g i x bits ≡ fault refusal.bad_group
+  pub turn-bad : (v : ℕ) (rest : List Bool) → read_field 7 bits ≡ Some (v, rest) → with_group n g v x ≡ None → read_group n g i x bits ≡ fault refusal.BadGroup
   unfolding read_group read_bits or_past or_bad_group
   turn-bad v rest e q = rw (e, q)
 
-  pub turn-good : (v : ℕ) (rest : List Bool) (y : List ℕ) → read_field 7 bits ≡ some (v, rest) → with_group n g v x ≡ some y → read_group n g i x bits ≡ ok y rest
+  pub turn-good : (v : ℕ) (rest : List Bool) (y : List ℕ) → read_field 7 bits ≡ Some (v, rest) → with_group n g v x ≡ Some y → read_group n g i x bits ≡ ok y rest
   unfolding read_group read_bits or_past or_bad_group
   turn-good v rest y e q = rw (e, q)
 
 -- the absolute value in front
-pub set_past : (n g : ℕ) (bits : List Bool) → read_field 4 bits ≡ none → read_exponents n g bits ≡ fault refusal.past_input
+pub set_past : (n g : ℕ) (bits : List Bool) → read_field 4 bits ≡ None → read_exponents n g bits ≡ fault refusal.PastInput
 unfolding read_exponents read_bits or_past
 set_past n g bits e = rw e
 
-pub set-came : (n g first pos : ℕ) (x : List ℕ) (bits : List Bool) (r : ReadEnd) → read_field 4 (from pos bits) ≡ some (first, from (pos + 4) bits)
+pub set-came : (n g first pos : ℕ) (x : List ℕ) (bits : List Bool) (r : Result ℕ Refusal) → read_field 4 (from pos bits) ≡ Some (first, from (pos + 4) bits)
     → Came (read_groups n g first (from (pos + 4) bits)) x bits (pos + 4) r → Came (read_exponents n g (from pos bits)) x bits pos r
 unfolding read_exponents read_bits or_past
-set-came n g first pos x bits r e c = rw e (record { good = c.good; bad = c.bad; within = c.within; later = omega (arith, c.later) })
+set-came n g first pos x bits (Ok p) e c = record { is = rw e c.is; within = c.within; later = omega (arith, c.later) }
+set-came n g first pos x bits (Err k) e c = rw e c
 
 -- bin 0 is stored first
 pub first-set : (l : List ℕ) (v : ℕ) → 0 < length l → take 1 (set l 0 v) ≡ v ∷ []

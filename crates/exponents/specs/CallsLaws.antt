@@ -1,12 +1,11 @@
 -- Laws of the two calls: what the writer wrote the reader reads, whatever bits follow; and the reader's slice as the frame takes it, with 0 from end on.
-use Rattle.std.specs.Prelude.{◌≡◌, Bool, true, List, ◌++◌, ℕ, ◌+◌, ◌-◌, ◌*◌, take, drop, replicate}
+use Rattle.std.specs.Prelude.{◌≡◌, Bool, true, List, ◌++◌, ℕ, ◌+◌, ◌-◌, ◌*◌, take, drop, replicate, Result, Ok, Err}
 use Rattle.std.proofs.Common.{sym, arith, length-append, take-append-drop}
 use Rattle.std.proofs.Math.ListN.{length}
-use Rattle.bits.specs.Answer.{gives}
 use Rattle.bits.specs.Reading.{Outcome, ok, then}
 use Rattle.bits.specs.Read.{Came}
 use Rattle.bits.specs.Tests.{both}
-use Rattle.bits.specs.declared.read.ReadEnd.{ReadEnd}
+use Rattle.bits.specs.declared.refusal.Refusal.{Refusal}
 use Rattle.shaping.specs.Greatest.{Shaped}
 use Rattle.sheet.specs.Ranges.{legal_end}
 use Rattle.shaping.specs.Passes.{is_span}
@@ -24,7 +23,7 @@ module _ (span : ℕ) (exps exp : List ℕ) (rest : List Bool) (a : in_range (le
       let p = both (legal_end (length exps)) (is_span span) a in
       (reads-exponents span exps p.0 p.1 f).back rest
 
-  pub read_back : exponents_read (exponent_bits span exps ++ rest) (length exps) span (length exp) ≡ gives (4 + 7 * group_count (length exps) span)
+  pub read_back : exponents_read (exponent_bits span exps ++ rest) (length exps) span (length exp) ≡ Ok (4 + 7 * group_count (length exps) span)
   unfolding exponents_read bits_read
   read_back =
       let n : length (exponent_bits span exps ++ rest) - length rest ≡ 4 + 7 * group_count (length exps) span =
@@ -36,8 +35,9 @@ module _ (span : ℕ) (exps exp : List ℕ) (rest : List Bool) (a : in_range (le
   left_back = rw (a, b, read-outcome)
 
 -- a slice of n entries: what was read, and 0 from end on
-pub came-padded : (o : Outcome (List ℕ)) (l : List ℕ) (end n : ℕ) (bits : List Bool) (pos : ℕ) (r : ReadEnd) → Came o (take end l) bits pos r
+pub came-padded : (o : Outcome (List ℕ)) (l : List ℕ) (end n : ℕ) (bits : List Bool) (pos : ℕ) (r : Result ℕ Refusal) → Came o (take end l) bits pos r
     → drop end l ≡ replicate (n - end) 0 → Came (then o (λ exps t. ok (exps ++ replicate (n - end) 0) t)) l bits pos r
-came-padded o l end n bits pos r c d =
+came-padded o l end n bits pos (Ok p) c d =
     let e : take end l ++ replicate (n - end) 0 ≡ l = rw (sym d) (take-append-drop end l) in
-    record { good = λ z. rw (c.good z, e); bad = λ z. rw (c.bad z); within = c.within; later = c.later }
+    record { is = rw (c.is, e); within = c.within; later = c.later }
+came-padded o l end n bits pos (Err k) c d = rw c

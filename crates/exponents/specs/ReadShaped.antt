@@ -2,9 +2,8 @@
 -- 4 bits and 7 for each group.
 use Rattle.std.proofs.Math.Path.{◌≡◌, refl, ap}
 use Rattle.std.proofs.Common.{◌∙◌, suc-mul, length-append}
-use Rattle.std.specs.Prelude.{Bool, true, false, cond, leb, get_or, replicate}
+use Rattle.std.specs.Prelude.{Bool, true, false, cond, leb, get_or, replicate, Option, None, Some}
 use mathlib.Core.List.{List, [], ◌∷◌, ◌++◌}
-use Rattle.std.proofs.Math.Option.{Option, none, some}
 use Prim.Native.Nat.{ℕ, suc, ◌+◌, ◌-◌, ◌*◌, ◌/◌, ◌%◌, ◌≤◌, ◌<◌, min}
 use Rattle.std.proofs.Math.Nat.{zero-mul}
 use Rattle.std.proofs.Math.Decide.{dec_lt, dec_le}
@@ -33,20 +32,20 @@ record SoFar (end span s : ℕ) (exps : List ℕ) : Type 0 where
   pub shaped : Shaped (span - 1) exps
   pub long : length exps ≡ min end (1 + s * span)
 
-never : {A : Type 0} {o : Option A} {a : A} → o ≡ none → o ≡ some a → ⊥
+never : {A : Type 0} {o : Option A} {a : A} → o ≡ None → o ≡ Some a → ⊥
 never p q = let z : ◌≡◌ {A = ℕ} 0 1 = cc in omega arith
 
 -- what some is made of
-on_some_lem : {A B : Type 0} (o : Option A) (f : A → Option B) (b : B) → on_some o f ≡ some b → (a : A) × ((o ≡ some a) × (f a ≡ some b))
-on_some_lem none f b e = absurd (never refl e)
-on_some_lem (some a) f b e = (a, (refl, e))
+on_some_lem : {A B : Type 0} (o : Option A) (f : A → Option B) (b : B) → on_some o f ≡ Some b → (a : A) × ((o ≡ Some a) × (f a ≡ Some b))
+on_some_lem None f b e = absurd (never refl e)
+on_some_lem (Some a) f b e = (a, (refl, e))
 
-guarded : {A : Type 0} (t : Bool) (o : Option A) (a : A) → cond t o none ≡ some a → (t ≡ true) × (o ≡ some a)
+guarded : {A : Type 0} (t : Bool) (o : Option A) (a : A) → cond t o None ≡ Some a → (t ≡ true) × (o ≡ Some a)
 guarded true o a e = (refl, e)
 guarded false o a e = absurd (never refl e)
 
 module _ (end span : ℕ) (w : 0 < span) where
-  span-kept : (s d : ℕ) (exps more : List ℕ) → d ≤ 4 → SoFar end span s exps → with_span end span d exps ≡ some more → SoFar end span (suc s) more
+  span-kept : (s d : ℕ) (exps more : List ℕ) → d ≤ 4 → SoFar end span s exps → with_span end span d exps ≡ Some more → SoFar end span (suc s) more
   span-kept s d exps more b f e = go (dec_lt (length exps) end) (dec_le 2 (last exps + d)) (dec_le (last exps + d) 26)
     where
       go : Dec (length exps < end) → Dec (2 ≤ last exps + d) → Dec (last exps + d ≤ 26) → SoFar end span (suc s) more
@@ -66,7 +65,7 @@ module _ (end span : ℕ) (w : 0 < span) where
             long = omega (arith, suc-mul s span);
           })
 
-  group-kept : (s v : ℕ) (exps more : List ℕ) → SoFar end span s exps → with_group end span v exps ≡ some more → SoFar end span (suc (suc (suc s))) more
+  group-kept : (s v : ℕ) (exps more : List ℕ) → SoFar end span s exps → with_group end span v exps ≡ Some more → SoFar end span (suc (suc (suc s))) more
   unfolding with_group
   group-kept s v exps more f e =
       let g = guarded (leb v 124) _ more e in
@@ -86,13 +85,13 @@ module _ (end span : ℕ) (w : 0 < span) where
     where
       of-group : (v : ℕ) (u : List Bool) (o : Option (List ℕ)) → with_group end span v exps ≡ o → read_bits 7 bits ≡ ok v u → or_bad_group o u ≡ ok more rest
           → SoFar end span (3 * suc g) more × (total ≡ 7 * suc g + length rest)
-      of-group v u none q r h = let z : ◌≡◌ {A = ℕ} 0 1 = cc in absurd (omega arith)
-      of-group v u (some l) q r h =
+      of-group v u None q r h = let z : ◌≡◌ {A = ℕ} 0 1 = cc in absurd (omega arith)
+      of-group v u (Some l) q r h =
           let a : l ≡ more = cc in
           let b : u ≡ rest = cc in
           let k : 3 * suc g ≡ suc (suc (suc (3 * g))) = omega arith in
           let n : length u ≡ length rest = ap length b in
-          (rw k (group-kept (3 * g) v exps more p.0 (q ∙ ap some a)), omega (arith, p.1, (bits-read 7 bits v u r).0))
+          (rw k (group-kept (3 * g) v exps more p.0 (q ∙ ap Some a)), omega (arith, p.1, (bits-read 7 bits v u r).0))
 
 -- ---- the whole set
 

@@ -1,9 +1,8 @@
 -- Reading an exponent set (A/52 7.1.3; document 01: "The added reader takes group values 0..124, ignores pad deltas, fills spans up to end").
 -- Faults come "as met in bit order": a field is read whole (7 where it runs past the input), then judged (8), a group's differences in order.
-use Rattle.std.specs.Prelude.{Bool, cond, ◌&&◌, List, [], ◌∷◌, ◌++◌, ℕ, ◌+◌, ◌-◌, ◌/◌, ◌%◌, min, leb, length, get_or, replicate}
-use Rattle.std.proofs.Math.Option.{Option, none, some}
+use Rattle.std.specs.Prelude.{Bool, cond, ◌&&◌, List, [], ◌∷◌, ◌++◌, ℕ, ◌+◌, ◌-◌, ◌/◌, ◌%◌, min, leb, length, get_or, replicate, Option, Some, None}
 use Rattle.bits.specs.Reading.{Outcome, ok, fault, then, read_bits, steps}
-use Rattle.bits.specs.Refusal as refusal
+use Rattle.bits.specs.declared.refusal.Refusal.TheVariants as refusal
 use Rattle.exponents.specs.Groups.{group_count}
 
 -- the exponent of the last bin that is there
@@ -14,25 +13,25 @@ last exps = get_or exps (length exps - 1) 0
 -- Where all bins below end are there the difference is a pad, which is not looked at.
 unfoldable pub with_span : ℕ → ℕ → ℕ → List ℕ → Option (List ℕ)
 with_span end span d exps =
-    cond (leb end (length exps)) (some exps)
-    (cond (leb 2 (last exps + d) && leb (last exps + d) 26) (some (exps ++ replicate (min span (end - length exps)) (last exps + d - 2))) none)
+    cond (leb end (length exps)) (Some exps)
+    (cond (leb 2 (last exps + d) && leb (last exps + d) 26) (Some (exps ++ replicate (min span (end - length exps)) (last exps + d - 2))) None)
 
 -- go on where there is something
 abbrev pub on_some : {A B : Type 0} → Option A → (A → Option B) → Option B
-on_some none f = none
-on_some (some a) f = f a
+on_some None f = None
+on_some (Some a) f = f a
 
 -- a group's value: at most 124, then its three differences in order
 unfoldable pub with_group : ℕ → ℕ → ℕ → List ℕ → Option (List ℕ)
 with_group end span v exps =
     cond (leb v 124)
     (on_some (with_span end span (v / 25) exps) (λ a. on_some (with_span end span (v % 25 / 5) a) (λ b. with_span end span (v % 5) b)))
-    none
+    None
 
 -- what is none is fault 8, "group above 124, or exponent outside 0..24"
 unfoldable pub or_bad_group : Option (List ℕ) → List Bool → Outcome (List ℕ)
-or_bad_group none bits = fault refusal.bad_group
-or_bad_group (some exps) bits = ok exps bits
+or_bad_group None bits = fault refusal.BadGroup
+or_bad_group (Some exps) bits = ok exps bits
 
 -- the next group, number g, after the exponents so far
 unfoldable pub read_group : ℕ → ℕ → ℕ → List ℕ → List Bool → Outcome (List ℕ)

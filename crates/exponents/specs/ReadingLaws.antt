@@ -1,9 +1,8 @@
 -- Laws of reading an exponent set: what was written is read back, in one way only.
-use Rattle.std.specs.Prelude.{◌≡◌, refl, Bool, true, take, drop, replicate}
+use Rattle.std.specs.Prelude.{◌≡◌, refl, Bool, true, take, drop, replicate, None, Some}
 use Rattle.std.proofs.Math.Path.{sym, ap}
 use Rattle.std.proofs.Common.{◌∙◌, length-take, length-drop, take-add, take_all, get_or-take, length-take-le, le-leb}
 use mathlib.Core.List.{List, [], ◌∷◌, ◌++◌}
-use Rattle.std.proofs.Math.Option.{none, some}
 use Prim.Native.Nat.{ℕ, zero, suc, ◌+◌, ◌-◌, ◌*◌, ◌^◌, ◌≤◌, ◌<◌, min}
 use Rattle.std.proofs.Math.Nat.{zero-mul, suc-mul}
 use Rattle.std.proofs.Math.Decide.{dec_lt}
@@ -25,22 +24,22 @@ use Rattle.exponents.specs.Reading.{last, with_span, with_group, or_bad_group, r
 -- ---- one difference
 
 -- a pad is not looked at
-pub span-pad : (end span d : ℕ) (exps : List ℕ) → end ≤ length exps → with_span end span d exps ≡ some exps
+pub span-pad : (end span d : ℕ) (exps : List ℕ) → end ≤ length exps → with_span end span d exps ≡ Some exps
 unfolding with_span
 span-pad end span d exps h = rw (le-leb end (length exps) h)
 
 -- a difference to an exponent within 0..24
 pub span-good : (end span d : ℕ) (exps : List ℕ) → length exps < end → 2 ≤ last exps + d → last exps + d ≤ 26
-    → with_span end span d exps ≡ some (exps ++ replicate (min span (end - length exps)) (last exps + d - 2))
+    → with_span end span d exps ≡ Some (exps ++ replicate (min span (end - length exps)) (last exps + d - 2))
 unfolding with_span
 span-good end span d exps h l u = rw (lt-leb end (length exps) h, le-leb 2 (last exps + d) l, le-leb (last exps + d) 26 u)
 
 -- one to an exponent outside 0..24
-pub span_below : (end span d : ℕ) (exps : List ℕ) → length exps < end → last exps + d < 2 → with_span end span d exps ≡ none
+pub span_below : (end span d : ℕ) (exps : List ℕ) → length exps < end → last exps + d < 2 → with_span end span d exps ≡ None
 unfolding with_span
 span_below end span d exps h u = rw (lt-leb end (length exps) h, lt-leb 2 (last exps + d) u)
 
-pub span-above : (end span d : ℕ) (exps : List ℕ) → length exps < end → 26 < last exps + d → with_span end span d exps ≡ none
+pub span-above : (end span d : ℕ) (exps : List ℕ) → length exps < end → 26 < last exps + d → with_span end span d exps ≡ None
 unfolding with_span
 span-above end span d exps h u = rw (lt-leb end (length exps) h, le-leb 2 (last exps + d) (omega arith), lt-leb (last exps + d) 26 u)
 
@@ -67,10 +66,10 @@ module _ (span : ℕ) (exps : List ℕ) (w : 0 < span) (f : Shaped (span - 1) ex
       ∙ get_or-replicate (length (take span (drop q exps))) (span - 1) (coded_at span exps (suc s)) 0 n
 
   -- the bins of one span more
-  span-back : (s : ℕ) → with_span (length exps) span (delta_at span exps s) (take (1 + s * span) exps) ≡ some (take (1 + suc s * span) exps)
+  span-back : (s : ℕ) → with_span (length exps) span (delta_at span exps s) (take (1 + s * span) exps) ≡ Some (take (1 + suc s * span) exps)
   span-back s = go (dec_lt (1 + s * span) (length exps))
     where
-      go : Dec (1 + s * span < length exps) → with_span (length exps) span (delta_at span exps s) (take (1 + s * span) exps) ≡ some (take (1 + suc s * span) exps)
+      go : Dec (1 + s * span < length exps) → with_span (length exps) span (delta_at span exps s) (take (1 + s * span) exps) ≡ Some (take (1 + suc s * span) exps)
       go (yes l) =
           let q = 1 + s * span in
           let r = shaped-span span exps s w f l in
@@ -81,12 +80,12 @@ module _ (span : ℕ) (exps : List ℕ) (w : 0 < span) (f : Shaped (span - 1) ex
           let m : min span (length exps - length (take q exps)) ≡ length (take span (drop q exps)) = rw (n, length-take span (drop q exps), length-drop) in
           let k : 1 + suc s * span ≡ q + span = omega (arith, suc-mul s span) in
           span-good (length exps) span (delta_at span exps s) (take q exps) (omega (arith, l)) (omega (arith, r.near)) (omega (arith, r.near))
-          ∙ ap some (rw (u, m, k, take-add q span exps) (ap (λ (t : List ℕ). take q exps ++ t) (sym r.run)))
+          ∙ ap Some (rw (u, m, k, take-add q span exps) (ap (λ (t : List ℕ). take q exps ++ t) (sym r.run)))
       go (no l) =
           rw (take_all (1 + s * span) exps (omega (arith, l)), take_all (1 + suc s * span) exps (omega (arith, l, suc-mul s span)))
           (span-pad (length exps) span (delta_at span exps s) exps (omega arith))
 
-  group-back : (s : ℕ) → with_group (length exps) span (group_at span exps s) (take (1 + s * span) exps) ≡ some (take (1 + suc (suc (suc s)) * span) exps)
+  group-back : (s : ℕ) → with_group (length exps) span (group_at span exps s) (take (1 + s * span) exps) ≡ Some (take (1 + suc (suc (suc s)) * span) exps)
   unfolding with_group
   group-back s =
       let g = group-parts span exps w f s in

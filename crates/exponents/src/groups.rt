@@ -1,42 +1,30 @@
 // Groups of three differences (A/52 7.1.3).
 ghost use Rattle.std.specs.Prelude.{◌≡◌, true, ◌+◌, ◌-◌, ◌*◌, ◌≤◌, ◌<◌, length, get_or, take};
+ghost use Rattle.elements.specs.Strategy.{grpsize};
 ghost use Rattle.shaping.specs.Greatest.{Shaped};
-ghost use Rattle.shaping.specs.Passes.{is_span};
 ghost use Rattle.exponents.specs.Groups.{delta, group, group_at, group_count};
-ghost use Rattle.exponents.specs.Inner.{Coded, Near};
+ghost use Rattle.exponents.specs.Inner.{Near, difference_at};
+
+use elements::Strategy;
 
 // How many groups follow the absolute value, at the ends that a sheet may hold.
-pub fn group_count(end: usize, grpsize: usize) -> usize
+pub fn group_count(end: usize, strategy: Strategy) -> usize
     requires { (0 < end) × (end ≤ 253) }
-    ensures { (result ≡ group_count end grpsize) × (result ≤ 84) }
+    ensures { (result ≡ group_count end (grpsize strategy)) × (result ≤ 84) }
 {
-    shaping::groups_of(end, grpsize)
+    shaping::groups_of(end, strategy.grpsize())
 }
 
-// A coded span: its exponent, and the difference from the one before it, plus 2.
-#[derive(Clone, Copy)]
-pub struct CodedSpan {
-    pub exponent: u8,
-    pub delta: u32,
-}
-
-// The span that begins at bin `p`; from end on a pad, which is a zero difference.
-fn span_at(exp: &[u8], p: usize, end: usize, before: u8) -> CodedSpan
-    requires end_in_bounds { end ≤ length exp.now }
-    requires near { Near before (get_or (take end exp.now) p before) }
-    ensures { Coded (take end exp.now) p before result }
+// The difference, plus 2, from the bin before to the bin `p`, where a span begins; behind the last bin a pad, which is a zero difference.
+fn difference_at(exp: &[u8], p: usize) -> u32
+    requires after_first { 0 < p }
+    requires near { p < length exp.now → Near (get_or exp.now (p - 1) 0) (get_or exp.now p 0) }
+    ensures { (result ≡ difference_at exp.now p) × (result ≤ 4) }
 {
-    if p < end {
-        let exponent = exp[p];
-        return CodedSpan {
-            exponent,
-            delta: (exponent + 2 - before) as u32,
-        };
+    if exp.len() <= p {
+        return 2;
     }
-    CodedSpan {
-        exponent: before,
-        delta: 2,
-    }
+    u32::from(exp[p] + 2 - exp[p - 1])
 }
 
 // The group of the spans b, c and d after a, none of them a pad:
@@ -45,22 +33,21 @@ fn whole_group(a: u8, b: u8, c: u8, d: u8) -> u32
     requires { Near a b × Near b c × Near c d }
     ensures { result ≡ group (delta a b) (delta b c) (delta c d) }
 {
-    62 + 20 * b as u32 + 4 * c as u32 + d as u32 - 25 * a as u32
+    62 + 20 * u32::from(b) + 4 * u32::from(c) + u32::from(d) - 25 * u32::from(a)
 }
 
 // The group number `i`: the three spans from number 3 * i on. Only the last group may have pads.
-pub fn group_at(exp: &[u8], end: usize, grpsize: usize, i: usize) -> u32
-    requires grpsize_value { (is_span grpsize ≡ true) × (end ≤ length exp.now) × (end ≤ 253) × (i < 84) × (1 + 3 * i * grpsize < end) }
-    requires shaped { Shaped (grpsize - 1) (take end exp.now) }
-    ensures { result ≡ group_at grpsize (take end exp.now) (3 * i) }
+pub fn group_at(exp: &[u8], end: usize, strategy: Strategy, i: usize) -> u32
+    requires in_bounds { (end ≤ length exp.now) × (end ≤ 253) × (i < 84) × (1 + 3 * i * grpsize strategy < end) }
+    requires shaped { Shaped (grpsize strategy - 1) (take end exp.now) }
+    ensures { result ≡ group_at (grpsize strategy) (take end exp.now) (3 * i) }
 {
+    let grpsize = strategy.grpsize();
     let p = 1 + 3 * i * grpsize;
     let last = p + 2 * grpsize;
     if last < end {
         return whole_group(exp[p - 1], exp[p], exp[p + grpsize], exp[last]);
     }
-    let first = span_at(exp, p, end, exp[p - 1]);
-    let second = span_at(exp, p + grpsize, end, first.exponent);
-    let third = span_at(exp, last, end, second.exponent);
-    25 * first.delta + 5 * second.delta + third.delta
+    let set = &exp[0..end];
+    25 * difference_at(set, p) + 5 * difference_at(set, p + grpsize) + difference_at(set, last)
 }

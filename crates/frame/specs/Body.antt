@@ -3,10 +3,11 @@
 use Rattle.std.specs.Prelude.{ℕ, ◌+◌, Bool, List, [], ◌∷◌, ◌++◌, length, take}
 use Rattle.bits.specs.Parts.{joined, piece, tab}
 use Rattle.allocation.specs.Allocation.{allocated}
+use Rattle.elements.specs.declared.set.ExponentSet.{ExponentSet}
+use Rattle.elements.specs.declared.set.ExponentSet.TheVariants.{Reuse, New}
+use Rattle.elements.specs.Strategy.{grpsize}
 use Rattle.exponents.specs.Groups.{exponent_bits}
 use Rattle.mantissas.specs.Stream.{stream}
-use Rattle.sheet.specs.declared.record.ExponentSet.{ExponentSet}
-use Rattle.sheet.specs.declared.record.ExponentSet.TheVariants.{Reuse, New}
 use Rattle.sheet.specs.Settings.{channels, record_at, end_at, set_at}
 use Rattle.sheet.specs.declared.settings.Settings.{Settings}
 use Rattle.frame.specs.Layout.{row_of, clean_row}
@@ -14,7 +15,7 @@ use Rattle.frame.specs.Layout.{row_of, clean_row}
 -- a channel's exponent set in a block (A/52 7.1.3): no bits where the block reuses the earlier one
 unfoldable pub set_bits : ExponentSet → ℕ → List ℕ → List Bool
 set_bits Reuse end part = []
-set_bits (New span) end part = exponent_bits span (take end part)
+set_bits (New strategy) end part = exponent_bits (grpsize strategy) (take end part)
 
 -- the new exponent sets of block b, by channel number
 unfoldable pub sets_bits : Settings → ℕ → List ℕ → List Bool

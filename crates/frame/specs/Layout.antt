@@ -2,16 +2,17 @@
 -- block is a row: C parts of 256 entries each.
 use Rattle.std.specs.Prelude.{ℕ, ◌-◌, ◌*◌, ◌<◌, ◌≡◌, List, ◌++◌, take, drop, replicate}
 use Rattle.bits.specs.Parts.{joined, piece}
-use Rattle.sheet.specs.declared.record.ExponentSet.{ExponentSet}
-use Rattle.sheet.specs.declared.record.ExponentSet.TheVariants.{Reuse, New}
+use Rattle.elements.specs.declared.set.ExponentSet.{ExponentSet}
+use Rattle.elements.specs.declared.set.ExponentSet.TheVariants.{Reuse, New}
+use Rattle.elements.specs.declared.strategy.Strategy.{Strategy}
 use Rattle.sheet.specs.Layout.{part_start}
 use Rattle.sheet.specs.Settings.{channels, end_at}
 use Rattle.sheet.specs.declared.settings.Settings.{Settings}
 
--- one thing where a block is reuse, another, by the span, where it has a new set
-unfoldable pub by_set : {A : Type 0} → ExponentSet → A → (ℕ → A) → A
+-- one thing where a block is reuse, another, by the strategy, where it has a new set
+unfoldable pub by_set : {A : Type 0} → ExponentSet → A → (Strategy → A) → A
 by_set Reuse reused new = reused
-by_set (New span) reused new = new span
+by_set (New strategy) reused new = new strategy
 
 -- the row of block b. Its part c starts at 256 × (C × block + channel) of the buffer: LayoutLaws, `part-starts`
 unfoldable pub row_of : Settings → ℕ → List ℕ → List ℕ

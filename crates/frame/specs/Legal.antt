@@ -2,11 +2,12 @@
 -- for its strategy, each reuse block's exponents those of the block before, below end; each code one of its bap's.
 use Rattle.std.specs.Prelude.{ℕ, ◌-◌, ◌≡◌, Bool, true, false, cond, List, [], ◌∷◌, eqb, take}
 use Rattle.bits.specs.Parts.{piece}
+use Rattle.elements.specs.declared.set.ExponentSet.{ExponentSet}
+use Rattle.elements.specs.declared.set.ExponentSet.TheVariants.{Reuse, New}
+use Rattle.elements.specs.Strategy.{grpsize}
 use Rattle.mantissas.specs.Stream.{coded}
 use Rattle.shaping.specs.Shaped.{shaped_for}
 use Rattle.sheet.specs.Ranges.{all_below}
-use Rattle.sheet.specs.declared.record.ExponentSet.{ExponentSet}
-use Rattle.sheet.specs.declared.record.ExponentSet.TheVariants.{Reuse, New}
 use Rattle.sheet.specs.Settings.{channels, end_at, set_at}
 use Rattle.sheet.specs.declared.settings.Settings.{Settings}
 use Rattle.frame.specs.Layout.{row_of, clean_row}
@@ -24,7 +25,7 @@ alike (x ∷ xs) (y ∷ ys) = cond (eqb x y) (alike xs ys) false
 -- which `shaped_for` is given less 1
 unfoldable pub part_legal : ExponentSet → ℕ → List ℕ → List ℕ → Bool
 part_legal Reuse end old part = alike (take end old) (take end part)
-part_legal (New span) end old part = shaped_for (span - 1) (take end part)
+part_legal (New strategy) end old part = shaped_for (grpsize strategy - 1) (take end part)
 
 -- the exponents of block b, after the row `old` of the block before
 unfoldable pub row_legal : Settings → ℕ → List ℕ → List ℕ → Bool

@@ -1,14 +1,17 @@
 -- What the tests of a legal frame say: two lists that are alike, a channel's part of a block, each part and the codes of each block.
-use Rattle.std.specs.Prelude.{ℕ, ◌-◌, ◌<◌, ◌≡◌, refl, Bool, true, false, cond, List, [], ◌∷◌, eqb, take}
+use Rattle.std.specs.Prelude.{ℕ, ◌-◌, ◌<◌, ◌≡◌, refl, Bool, true, false, cond, ◌&&◌, List, [], ◌∷◌, eqb, take}
 use Rattle.std.proofs.Common.{sym, ap₂, true≢false, eqb-true, eq-eqb}
+use lib.Pointwise.{pointwise}
 use Rattle.bits.specs.Parts.{piece}
+use Rattle.elements.specs.declared.set.ExponentSet.TheVariants.{Reuse, New}
+use Rattle.elements.specs.Strategy.{grpsize}
+use Rattle.elements.specs.declared.strategy.Strategy.{Strategy}
 use Rattle.mantissas.specs.Stream.{coded}
 use Rattle.mantissas.specs.Inner.{Coded}
 use Rattle.mantissas.specs.CodedLaws.{coded-true}
 use Rattle.shaping.proofs.ShapedLaws.{shaped-yes}
 use Rattle.shaping.specs.Greatest.{Shaped}
 use Rattle.sheet.specs.Tests.{all-below}
-use Rattle.sheet.specs.declared.record.ExponentSet.TheVariants.{Reuse, New}
 use Rattle.sheet.specs.Settings.{channels, end_at, set_at}
 use Rattle.sheet.specs.declared.settings.Settings.{Settings}
 use Rattle.frame.specs.Layout.{row_of, clean_row}
@@ -36,15 +39,27 @@ unfolding alike
 alike-itself [] = refl
 alike-itself (x ∷ xs) = rw (eq-eqb x x refl) (alike-itself xs)
 
+-- that is what `==` of slices says
+both-is : (t s : Bool) → (t && s) ≡ cond t s false
+both-is true s = refl
+both-is false s = refl
+
+pub alike-pointwise : (x y : List ℕ) → pointwise eqb x y ≡ alike x y
+unfolding alike
+alike-pointwise [] [] = refl
+alike-pointwise [] (y ∷ ys) = refl
+alike-pointwise (x ∷ xs) [] = refl
+alike-pointwise (x ∷ xs) (y ∷ ys) = rw (alike-pointwise xs ys) (both-is (eqb x y) (alike xs ys))
+
 -- ---- one channel's part of a block
 
 pub part-repeats : (end : ℕ) (old part : List ℕ) → part_legal Reuse end old part ≡ true → take end old ≡ take end part
 unfolding part_legal
 part-repeats end old part h = alike_same (take end old) (take end part) h
 
-pub part-shaped : (span end : ℕ) (old part : List ℕ) → part_legal (New span) end old part ≡ true → Shaped (span - 1) (take end part)
+pub part-shaped : (strategy : Strategy) (end : ℕ) (old part : List ℕ) → part_legal (New strategy) end old part ≡ true → Shaped (grpsize strategy - 1) (take end part)
 unfolding part_legal
-part-shaped span end old part h = shaped-yes (span - 1) (take end part) h
+part-shaped strategy end old part h = shaped-yes (grpsize strategy - 1) (take end part) h
 
 -- ---- a legal frame
 

@@ -8,15 +8,17 @@ use Rattle.std.proofs.Math.ListN.{length}
 use Rattle.bits.specs.Parts.{joined, piece, tab}
 use Rattle.bits.specs.Reading.{ok}
 use Rattle.bits.specs.ReadingLaws.{reads-map, reads-gather, Reads}
+use Rattle.elements.specs.declared.set.ExponentSet.{ExponentSet}
+use Rattle.elements.specs.declared.set.ExponentSet.TheVariants.{Reuse, New}
+use Rattle.elements.specs.Strategy.{grpsize}
 use Rattle.exponents.specs.Groups.{exponent_bits}
 use Rattle.exponents.specs.Reading.{read_exponents}
 use Rattle.exponents.specs.ReadingLaws.{reads-exponents}
 use Rattle.mantissas.specs.ReadBack.{reads-stream}
 use Rattle.mantissas.specs.Stream.{stream}
 use Rattle.mantissas.specs.Inner.{Coded}
+use Rattle.shaping.specs.GroupsLaws.{is_span-grpsize}
 use Rattle.sheet.specs.Ranges.{legal_end}
-use Rattle.sheet.specs.declared.record.ExponentSet.{ExponentSet}
-use Rattle.sheet.specs.declared.record.ExponentSet.TheVariants.{Reuse, New}
 use Rattle.sheet.specs.Settings.{channels, end_at, set_at}
 use Rattle.sheet.specs.LegalSettings.{LegalSettings}
 use Rattle.sheet.specs.declared.settings.Settings.{Settings}
@@ -26,7 +28,7 @@ use Rattle.frame.specs.Body.{set_bits, sets_bits, bap_row, mantissa_bits, block_
 use Rattle.frame.specs.Legal.{part_legal, row_legal}
 use Rattle.frame.specs.LegalLaws.{part-repeats, part-shaped, part-of-row}
 use Rattle.frame.specs.Reader.{Frame, read_part, read_sets, read_block, grown, nothing, earlier}
-use Rattle.frame.specs.Under.{KnownSet, channel-known, known-set}
+use Rattle.frame.specs.Under.{channel-known}
 
 -- what is read of its first k blocks: exponents and codes with 0 from each end on, their allocation and their counts
 unfoldable pub frame_of : Settings → List ℕ → List ℕ → ℕ → Frame
@@ -41,15 +43,15 @@ frame_of settings exps codes k =
     }
 
 -- a channel's part: a new set is read back as it was written; a reuse block repeats the earlier part
-part-reads : (set : ExponentSet) (end : ℕ) (old part : List ℕ) → KnownSet set → legal_end end ≡ true → end ≤ length part → (set ≡ Reuse → clean end old ≡ old)
+part-reads : (set : ExponentSet) (end : ℕ) (old part : List ℕ) → legal_end end ≡ true → end ≤ length part → (set ≡ Reuse → clean end old ≡ old)
     → part_legal set end old part ≡ true → Reads (read_part set end old) (set_bits set end part) (clean end part)
 unfolding read_part set_bits clean
-part-reads Reuse end old part k e l kept h =
+part-reads Reuse end old part e l kept h =
     record { back = λ rest. ap (λ (p : List ℕ). ok p rest) (sym (kept refl) ∙ ap (λ (p : List ℕ). p ++ replicate (256 - end) 0) (part-repeats end old part h)) }
-part-reads (New span) end old part k e l kept h =
+part-reads (New strategy) end old part e l kept h =
     let long = length-take-le end part l in
-    let r : Reads (read_exponents end span) (exponent_bits span (take end part)) (take end part) =
-    rw long at (reads-exponents span (take end part) (rw long e) (k.known span refl) (part-shaped span end old part h)) in
+    let r : Reads (read_exponents end (grpsize strategy)) (exponent_bits (grpsize strategy) (take end part)) (take end part) =
+    rw long at (reads-exponents (grpsize strategy) (take end part) (rw long e) (is_span-grpsize strategy) (part-shaped strategy end old part h)) in
     reads-map (λ (exps : List ℕ). exps ++ replicate (256 - end) 0) r
 
 module _ (settings : Settings) (under : LegalSettings settings) where
@@ -63,7 +65,7 @@ module _ (settings : Settings) (under : LegalSettings settings) where
   unfolding read_sets sets_bits clean_row
   sets-read b old row long kept h =
       reads-gather _ _ (channels settings)
-      (λ c l. part-reads (set_at settings b c) (end_at settings c) (piece 256 c old) (piece 256 c row) (known-set settings under b c)
+      (λ c l. part-reads (set_at settings b c) (end_at settings c) (piece 256 c old) (piece 256 c row)
       (channel-known settings under c l).legal (end-inside settings under row long c l) (kept c l) (part-of-row settings b old row h c l))
 
   -- block b: its sets, then, by the allocation that they give, its mantissas

@@ -3,10 +3,11 @@
 use Rattle.std.specs.Prelude.{ℕ, zero, suc, ◌-◌, ◌*◌, Bool, List, [], ◌∷◌, ◌++◌, length, replicate}
 use Rattle.bits.specs.Parts.{piece}
 use Rattle.bits.specs.Reading.{Outcome, ok, then, steps, gather}
+use Rattle.elements.specs.declared.set.ExponentSet.{ExponentSet}
+use Rattle.elements.specs.declared.set.ExponentSet.TheVariants.{Reuse, New}
+use Rattle.elements.specs.Strategy.{grpsize}
 use Rattle.exponents.specs.Reading.{read_exponents}
 use Rattle.mantissas.specs.Stream.{read_stream}
-use Rattle.sheet.specs.declared.record.ExponentSet.{ExponentSet}
-use Rattle.sheet.specs.declared.record.ExponentSet.TheVariants.{Reuse, New}
 use Rattle.sheet.specs.Settings.{channels, end_at, set_at}
 use Rattle.sheet.specs.declared.settings.Settings.{Settings}
 use Rattle.frame.specs.Layout.{row_of, clean_row}
@@ -15,7 +16,7 @@ use Rattle.frame.specs.Body.{bap_row}
 -- a channel's exponents in a block: a new set is read, reuse repeats the part of the block before (`old`)
 unfoldable pub read_part : ExponentSet → ℕ → List ℕ → List Bool → Outcome (List ℕ)
 read_part Reuse end old bits = ok old bits
-read_part (New span) end old bits = then (read_exponents end span bits) (λ exps rest. ok (exps ++ replicate (256 - end) 0) rest)
+read_part (New strategy) end old bits = then (read_exponents end (grpsize strategy) bits) (λ exps rest. ok (exps ++ replicate (256 - end) 0) rest)
 
 -- the exponents of block b, after the row `old` of the block before
 unfoldable pub read_sets : Settings → ℕ → List ℕ → List Bool → Outcome (List ℕ)

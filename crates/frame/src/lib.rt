@@ -3,4 +3,4 @@
 
 pub mod answer;
 
-pub use answer::{FrameAnswer, refused};
+pub use answer::BodyBits;

@@ -9,15 +9,17 @@ use lib.ListN.{length, take, drop, get_or, set, length-drop, length-set, take-ap
 use lib.Seq.{take-suc, take-length, take-set-le, drop-set-lt, drop-set-add}
 use Rattle.bits.specs.Parts.{tab}
 use Rattle.bits.specs.PartsLaws.{tab-more, tab-end}
+use Rattle.elements.specs.declared.set.ExponentSet.{ExponentSet}
+use Rattle.elements.specs.declared.set.ExponentSet.TheVariants.{Reuse, New}
+use Rattle.elements.specs.Strategy.{grpsize}
+use Rattle.elements.specs.declared.strategy.Strategy.{Strategy}
 use Rattle.exponents.specs.Groups.{group_count}
 use Rattle.exponents.specs.GroupsLaws.{count-thirds}
 use Rattle.mantissas.specs.Formula.{sum}
 use Rattle.sheet.specs.Ranges.{legal_end}
-use Rattle.sheet.specs.declared.record.ExponentSet.{ExponentSet}
-use Rattle.sheet.specs.declared.record.ExponentSet.TheVariants.{Reuse, New}
 use Rattle.frame.specs.Body.{total}
 use Rattle.frame.specs.BodyLaws.{total-append}
-use Rattle.frame.specs.Under.{KnownSet}
+use Rattle.shaping.specs.GroupsLaws.{is_span-grpsize}
 use Rattle.frame_body.specs.Counts.{set_count}
 
 -- ---- a set
@@ -26,9 +28,9 @@ pub set-none : (set : ExponentSet) (end : ℕ) → set ≡ Reuse → 0 ≡ set_c
 unfolding set_count
 set-none set end e = rw e
 
-pub set-groups : (set : ExponentSet) (span end : ℕ) → set ≡ New span → KnownSet set → legal_end end ≡ true → 4 + 7 * group_count end span ≡ set_count set end
+pub set-groups : (set : ExponentSet) (strategy : Strategy) (end : ℕ) → set ≡ New strategy → legal_end end ≡ true → 4 + 7 * group_count end (grpsize strategy) ≡ set_count set end
 unfolding set_count
-set-groups set span end new k e = rw new (ap (λ (g : ℕ). 4 + 7 * g) (count-thirds end span e (k.known span new)))
+set-groups set strategy end new e = rw new (ap (λ (g : ℕ). 4 + 7 * g) (count-thirds end (grpsize strategy) e (is_span-grpsize strategy)))
 
 -- ---- a sum
 

@@ -16,15 +16,8 @@ use Rattle.frame_runs.specs.Inner.{Encodable}
 use Rattle.frame_runs.specs.FiniteLaws.{finite-below}
 use Rattle.frame_runs.specs.FramedLaws.{below_row}
 use Rattle.frame_runs.specs.RunsLaws.{whole_below}
-use Rattle.mantissas.specs.RangesLaws.{row}
-use Rattle.quantiser.specs.Code.{code_of}
-use Rattle.quantiser.specs.CodeLaws.{code-in-range}
 use Rattle.frame_encoder.specs.Codes.{codes_for, code_part}
 use Rattle.frame_encoder.specs.Made.{Codable, Allocated}
-
--- a code fits 16 bits
-pub code_fits : (x : Float) (k b : ℕ) → b ≤ 15 → code_of x k b < 65536
-code_fits x k b h = omega (arith, code-in-range x k b h, (row b (omega (arith, h))).levels-most)
 
 -- ---- a channel's part
 

@@ -178,9 +178,12 @@ module _ (settings : Settings) (coeffs : List Float) (under : LegalSettings sett
   pub encoded-made : Made settings (exps_of settings coeffs) (baps_of settings (exps_of settings coeffs)) (codes_of settings coeffs)
   encoded-made =
       record {
-        exps-long = runs-allocated.whole;
-        bap-long = length-baps settings (exps_of settings coeffs);
-        codes-long = length-codes_of;
+        long =
+            record {
+              exps-long = runs-allocated.whole;
+              bap-long = length-baps settings (exps_of settings coeffs);
+              codes-long = length-codes_of;
+            };
         legal = encoded-legal;
         clean = codes_of-clean;
         is = refl;

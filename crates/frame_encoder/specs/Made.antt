@@ -7,6 +7,12 @@ use Rattle.frame.specs.Body.{baps_of}
 use Rattle.frame.specs.Layout.{cleaned}
 use Rattle.frame_runs.specs.Finite.{finite_part}
 
+-- buffers of so many exponents, baps and codes have one for each bin of the sheet's frames
+pub record Buffers (settings : Settings) (exps bap codes : ℕ) : Type 0 where
+  pub exps-long : exps ≡ 256 * channels settings * 6
+  pub bap-long : bap ≡ 256 * channels settings * 6
+  pub codes-long : codes ≡ 256 * channels settings * 6
+
 -- coefficients that can be coded: each is finite, with an exponent of at most 24 and a bap of at most 15
 pub record Codable (xs : List Float) (exps bap : List ℕ) : Type 0 where
   pub all-finite : finite_part xs ≡ true
@@ -23,9 +29,7 @@ pub record Allocated (settings : Settings) (exps bap : List ℕ) : Type 0 where
 
 -- a frame as it is worked out in local arrays before it is stored: legal, with its allocation, and its codes 0 from each end on
 pub record Made (settings : Settings) (exps bap codes : List ℕ) : Type 0 where
-  pub exps-long : length exps ≡ 256 * channels settings * 6
-  pub bap-long : length bap ≡ 256 * channels settings * 6
-  pub codes-long : length codes ≡ 256 * channels settings * 6
+  pub long : Buffers settings (length exps) (length bap) (length codes)
   pub legal : LegalFrame settings exps codes
   pub clean : cleaned settings codes ≡ codes
   pub is : bap ≡ baps_of settings exps

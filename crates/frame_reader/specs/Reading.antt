@@ -1,16 +1,16 @@
 -- How the code reads a frame: how many bits there can be, what holds from block to
 -- block, and what a block's reading and the whole reading come to.
-use Rattle.std.specs.Prelude.{ℕ, ◌+◌, ◌*◌, ◌≤◌, ◌≡◌, Bool, List, length}
+use Rattle.std.specs.Prelude.{ℕ, ◌+◌, ◌*◌, ◌≤◌, ◌≡◌, Bool, List, Result, Ok, MatchResult, length}
 use Rattle.bits.specs.Read.{from}
 use Rattle.bits.specs.Reading.{Outcome, ok, fault}
-use Rattle.bits.specs.Refusal as refusal
+use Rattle.bits.specs.declared.refusal.Refusal.{Refusal}
 use Rattle.sheet.specs.Settings.{channels}
 use Rattle.sheet.specs.Sizes.{most_channels, most_row}
 use Rattle.sheet.specs.declared.settings.Settings.{Settings}
 use Rattle.frame.specs.Answers.{reading_of, exps_read, bap_read, codes_read, read_into}
 use Rattle.frame.specs.Body.{bap_row}
 use Rattle.frame.specs.Reader.{Frame, grown, read_block}
-use Rattle.frame.specs.declared.answer.FrameAnswer.{FrameAnswer}
+use Rattle.frame.specs.declared.answer.BodyBits.{BodyBits}
 use Rattle.frame_rows.specs.Inner.{LowRow}
 use Rattle.frame_reader.specs.declared.block.BlockEnd.{BlockEnd}
 
@@ -37,24 +37,34 @@ pub record HeldRows (settings : Settings) (b : ℕ) (row bap : List ℕ) : Type 
   pub low : LowRow settings row
   pub kept : (b ≡ 0 → ⊥) → bap ≡ bap_row settings row
 
--- a block with a fault
-abbrev pub no_block : ℕ → ℕ → BlockEnd
-no_block number pos = record { fault = number; pos = pos; sets = 0; stream = 0 }
-
 -- block b was read at pos, from any state whose row is `old`
-pub record CameBlock (settings : Settings) (b : ℕ) (old : List ℕ) (bits : List Bool) (pos : ℕ) (row bap codes : List ℕ) (r : BlockEnd) : Type 0 where
-  pub good : r.fault ≡ refusal.accepted → (s : Frame) → s.row ≡ old
-      → read_block settings b s (from pos bits) ≡ ok (grown s row bap codes r.sets r.stream) (from r.pos bits)
-  pub bad : (r.fault ≡ refusal.accepted → ⊥) → (s : Frame) → s.row ≡ old → read_block settings b s (from pos bits) ≡ fault r.fault
-  pub rows : r.fault ≡ refusal.accepted → HeldRows settings (b + 1) row bap
-  pub within : r.pos ≤ length bits
-  pub near : r.pos ≤ pos + most_block
+pub record BlockRead (settings : Settings) (b : ℕ) (old : List ℕ) (bits : List Bool) (pos : ℕ) (row bap codes : List ℕ) (end : BlockEnd) : Type 0 where
+  pub is : (s : Frame) → s.row ≡ old → read_block settings b s (from pos bits) ≡ ok (grown s row bap codes end.sets end.stream) (from end.pos bits)
+  pub rows : HeldRows settings (b + 1) row bap
+  pub within : end.pos ≤ length bits
+  pub near : end.pos ≤ pos + most_block
+
+-- or it has a fault
+pub record BlockFault (settings : Settings) (b : ℕ) (old : List ℕ) (bits : List Bool) (pos : ℕ) (k : Refusal) : Type 0 where
+  pub is : (s : Frame) → s.row ≡ old → read_block settings b s (from pos bits) ≡ fault k
+
+abbrev pub CameBlock : Settings → ℕ → List ℕ → List Bool → ℕ → List ℕ → List ℕ → List ℕ → Result BlockEnd Refusal → Type 0
+CameBlock settings b old bits pos row bap codes r = MatchResult r (BlockRead settings b old bits pos row bap codes) (BlockFault settings b old bits pos)
 
 -- ---- the six blocks
 
--- the whole reading: its answer, and what the buffers hold where there was no fault
-pub record CameFrame (outcome : Outcome Frame) (bits : List Bool) (exps bap codes : List ℕ) (r : FrameAnswer) : Type 0 where
-  pub answer : r ≡ reading_of bits outcome
-  pub exps-read : r.refusal ≡ refusal.accepted → (n : ℕ) → exps ≡ read_into exps_read n outcome
-  pub bap-read : r.refusal ≡ refusal.accepted → (n : ℕ) → bap ≡ read_into bap_read n outcome
-  pub codes-read : r.refusal ≡ refusal.accepted → (n : ℕ) → codes ≡ read_into codes_read n outcome
+-- buffers for exponents, bap and codes: each of six rows
+pub record SixRows (settings : Settings) (exps bap codes : List ℕ) : Type 0 where
+  pub exps-long : length exps ≡ 256 * channels settings * 6
+  pub bap-long : length bap ≡ 256 * channels settings * 6
+  pub codes-long : length codes ≡ 256 * channels settings * 6
+
+-- the whole reading where there was no fault: its answer, and what the buffers hold
+pub record FrameRead (outcome : Outcome Frame) (bits : List Bool) (exps bap codes : List ℕ) (read : BodyBits) : Type 0 where
+  pub answer : Ok read ≡ reading_of bits outcome
+  pub exps-read : (n : ℕ) → exps ≡ read_into exps_read n outcome
+  pub bap-read : (n : ℕ) → bap ≡ read_into bap_read n outcome
+  pub codes-read : (n : ℕ) → codes ≡ read_into codes_read n outcome
+
+abbrev pub CameFrame : Outcome Frame → List Bool → List ℕ → List ℕ → List ℕ → Result BodyBits Refusal → Type 0
+CameFrame outcome bits exps bap codes r = MatchResult r (FrameRead outcome bits exps bap codes) (λ k. outcome ≡ fault k)

@@ -1,74 +1,46 @@
 // The six blocks of a body.
-ghost use Rattle.std.specs.Prelude.{◌≡◌, ◌++◌, ◌*◌, length, replicate};
+ghost use Rattle.std.specs.Prelude.{◌≡◌, ◌*◌, length, replicate};
 ghost use Rattle.bits.specs.Field.{bits_of};
 ghost use Rattle.sheet.specs.Settings.{channels};
 ghost use Rattle.frame.specs.Reader.{read_frame};
-ghost use Rattle.frame.specs.Under.{Under};
-ghost use Rattle.frame_reader.specs.Reading.{CameFrame};
+ghost use Rattle.frame_reader.specs.Reading.{CameFrame, SixRows};
 
 use crate::block::get_block;
-use bits::refusal::ACCEPTED;
-use frame::FrameAnswer;
-use sheet::{BlockSet, MOST_CHANNELS, Settings};
-
-// The twelve counts: six of exponent bits, then six of mantissa bits.
-fn twelve(sets: [u32; 6], streams: [u32; 6]) -> [u32; 12]
-    ensures { result ≡ sets ++ streams }
-{
-    [
-        sets[0], sets[1], sets[2], sets[3], sets[4], sets[5], streams[0], streams[1], streams[2],
-        streams[3], streams[4], streams[5],
-    ]
-}
+use bits::Refusal;
+use frame::BodyBits;
+use sheet::Track;
 
 // The blocks up to the first fault. `row` and `held` have the exponents and the bap that hold when a block begins.
+// These two, and the three buffers, stay slices beside each other: a struct would be made of lent parts only to be taken apart again, and is no plainer.
 pub(crate) fn get_blocks(
-    settings: Settings,
-    strategies: [[BlockSet; 6]; MOST_CHANNELS],
+    track: &Track,
     input: &[u8],
     row: &mut [u8],
     held: &mut [u8],
     exps: &mut [u8],
     bap: &mut [u8],
     codes: &mut [u16],
-) -> FrameAnswer
-    requires under { Under settings strategies }
-    requires row_value { (row.old ≡ replicate (256 * channels settings) 0) × (length held.old ≡ 256 * channels settings) }
-    requires exps_len { (length exps.old ≡ 256 * channels settings * 6) × (length bap.old ≡ 256 * channels settings * 6) × (length codes.old ≡ 256 * channels settings * 6) }
-    ensures { CameFrame (read_frame settings (bits_of input.now)) (bits_of input.now) exps.new bap.new codes.new result }
+) -> Result<BodyBits, Refusal>
+    requires row_value { (row.old ≡ replicate (256 * channels track.now.settings) 0) × (length held.old ≡ 256 * channels track.now.settings) }
+    requires lengths { SixRows track.now.settings exps.old bap.old codes.old }
+    ensures { CameFrame (read_frame track.now.settings (bits_of input.now)) (bits_of input.now) exps.new bap.new codes.new result }
 {
-    let n = sheet::channels(settings);
-    let z = 256 * n;
-    let mut sets = [0u32; 6];
-    let mut streams = [0u32; 6];
+    let z = 256 * track.channels();
+    let mut counts = [0u32; 12];
     let mut at = 0;
     for b in 0..6 {
         let a = z * b;
         let e = a + z;
-        let r = get_block(
-            settings,
-            strategies,
-            b,
-            input,
-            at,
-            row,
-            held,
-            &mut codes[a..e],
-        );
-        if r.fault != ACCEPTED {
-            return frame::refused(r.fault);
-        }
-        slices::copy(row, &mut exps[a..e]);
-        slices::copy(held, &mut bap[a..e]);
-        sets[b] = r.sets;
-        streams[b] = r.stream;
-        at = r.pos;
+        let end = get_block(track, b, input, at, row, held, &mut codes[a..e])?;
+        exps[a..e].copy_from_slice(row);
+        bap[a..e].copy_from_slice(held);
+        counts[b] = end.sets;
+        counts[6 + b] = end.stream;
+        at = end.pos;
     }
-    let counts = twelve(sets, streams);
-    let read = at as u32;
-    FrameAnswer {
-        refusal: ACCEPTED,
-        counts: counts,
-        bits: read,
-    }
+    // `as` here: `try_from` with `unwrap` is no plainer where the bound is proved.
+    Ok(BodyBits {
+        counts,
+        bits: at as u32,
+    })
 }

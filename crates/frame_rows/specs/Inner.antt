@@ -1,22 +1,11 @@
--- The buffers that are filled with a frame's rows, and what the allocation of a block asks of its row.
-use Rattle.std.specs.Prelude.{ℕ, ◌≤◌, ◌<◌, ◌≡◌, List, get_or, replicate}
+-- What the allocation of a block asks of its row.
+use Rattle.std.specs.Prelude.{ℕ, ◌≤◌, ◌<◌, ◌≡◌, List, get_or}
 use Rattle.bits.specs.Parts.{piece}
-use Rattle.sheet.specs.declared.record.ExponentSet.{ExponentSet}
-use Rattle.sheet.specs.declared.record.ExponentSet.TheVariants.{Reuse}
-use Rattle.sheet.specs.Sizes.{most_row, most_buffer}
+use Rattle.elements.specs.declared.set.ExponentSet.{ExponentSet}
+use Rattle.elements.specs.declared.set.ExponentSet.TheVariants.{Reuse}
 use Rattle.sheet.specs.Settings.{channels, end_at, set_at}
 use Rattle.sheet.specs.declared.settings.Settings.{Settings}
 use Rattle.frame.specs.Body.{bap_part}
-
--- a row for the most channels, all 0
-unfoldable pub no_row : List ℕ
-no_row = replicate most_row 0
-
--- a buffer for the most channels, all 0
-unfoldable pub no_buffer : List ℕ
-no_buffer = replicate most_buffer 0
-
--- ---- what the allocation of a block asks
 
 -- below each end the exponents of a row are at most 24
 pub record LowRow (settings : Settings) (row : List ℕ) : Type 0 where

@@ -2,9 +2,11 @@
 use Rattle.std.specs.Prelude.{ℕ, zero, suc, ◌-◌, ◌*◌, ◌≤◌, ◌<◌, ◌≡◌, true, List, length, take, get_or}
 use Rattle.std.proofs.Common.{sym, ap, ◌∙◌, arith, get_or-take}
 use Rattle.bits.specs.Parts.{piece}
+use Rattle.elements.specs.declared.set.ExponentSet.TheVariants.{Reuse, New}
+use Rattle.elements.specs.Strategy.{grpsize}
+use Rattle.elements.specs.declared.strategy.Strategy.{Strategy}
 use Rattle.shaping.specs.Greatest.{Shaped}
 use Rattle.shaping.proofs.ShapedLaws.{shaped-at-most}
-use Rattle.sheet.specs.declared.record.ExponentSet.TheVariants.{Reuse, New}
 use Rattle.sheet.specs.Settings.{channels, end_at, set_at}
 use Rattle.sheet.specs.LegalSettings.{LegalSettings}
 use Rattle.sheet.specs.declared.settings.Settings.{Settings}
@@ -41,9 +43,9 @@ earlier-taken settings exps under long b c hb hc =
 
 module _ (settings : Settings) (exps : List ℕ) (under : LegalSettings settings) (long : length exps ≡ 256 * channels settings * 6) (legal : exps_legal settings exps ≡ true) where
   -- a new set is shaped
-  pub new-shaped : (b c : ℕ) → b < 6 → c < channels settings → (span : ℕ) → set_at settings b c ≡ New span
-      → Shaped (span - 1) (take (end_at settings c) (piece 256 c (row_of settings b exps)))
-  new-shaped b c hb hc span z = part-shaped span (end_at settings c) (piece 256 c (earlier settings exps b)) _ (rw z at (legal-part settings exps legal b c hb hc))
+  pub new-shaped : (b c : ℕ) → b < 6 → c < channels settings → (strategy : Strategy) → set_at settings b c ≡ New strategy
+      → Shaped (grpsize strategy - 1) (take (end_at settings c) (piece 256 c (row_of settings b exps)))
+  new-shaped b c hb hc strategy z = part-shaped strategy (end_at settings c) (piece 256 c (earlier settings exps b)) _ (rw z at (legal-part settings exps legal b c hb hc))
 
   -- a reuse block repeats the block before, below end
   pub reuse-repeats : (b c : ℕ) → suc b < 6 → c < channels settings → set_at settings (suc b) c ≡ Reuse
@@ -52,9 +54,9 @@ module _ (settings : Settings) (exps : List ℕ) (under : LegalSettings settings
       sym (earlier-taken settings exps under long b c hb hc)
       ∙ part-repeats (end_at settings c) (piece 256 c (earlier settings exps (suc b))) _ (rw z at (legal-part settings exps legal (suc b) c hb hc))
 
-  low-new : (b c : ℕ) → b < 6 → c < channels settings → (span : ℕ) → set_at settings b c ≡ New span
+  low-new : (b c : ℕ) → b < 6 → c < channels settings → (strategy : Strategy) → set_at settings b c ≡ New strategy
       → (bin : ℕ) → bin < end_at settings c → get_or (piece 256 c (row_of settings b exps)) bin 0 ≤ 24
-  low-new b c hb hc span z = low-shaped _ (end_at settings c) (piece 256 c (row_of settings b exps)) (new-shaped b c hb hc span z)
+  low-new b c hb hc strategy z = low-shaped _ (end_at settings c) (piece 256 c (row_of settings b exps)) (new-shaped b c hb hc strategy z)
 
   low-at : (b c : ℕ) → b < 6 → c < channels settings → (bin : ℕ) → bin < end_at settings c → get_or (piece 256 c (row_of settings b exps)) bin 0 ≤ 24
   low-at zero c hb hc = one_of_two (set_at settings 0 c) (λ z. absurd ((channel-known settings under c hc).first z)) (low-new 0 c hb hc)

@@ -1,31 +1,19 @@
--- Laws of rows as the code fills them: buffers that are all 0 at first, a part that is cleaned, the row that is lent, and the rows of a whole frame.
+-- Laws of rows as the code fills them: a part that is cleaned, the row that is lent, and the rows of a whole frame.
 use Rattle.std.specs.Prelude.{ℕ, zero, suc, ◌+◌, ◌-◌, ◌*◌, ◌≤◌, ◌<◌, ◌≡◌, refl, List, [], ◌++◌, length, take, drop, get_or, replicate}
 use Rattle.std.proofs.Common.{ap, ap₂, ◌∙◌, append-nil, length-append, length-take, length-drop, drop_of_length-le, take_at, length-take-le}
 use Rattle.std.proofs.Math.Nat.{sub-zero}
 use native.Mathlib.Omega.{arith}
-use Rattle.std.proofs.lemmas.List.{length-replicate}
 use Rattle.std.proofs.Math.Seq.{length_front}
 use Rattle.bits.specs.Parts.{joined, piece}
 use Rattle.bits.specs.PartsLaws.{joined_length, piece-joined, within, front-taken, placed}
 use Rattle.sheet.specs.Settings.{channels}
 use Rattle.sheet.specs.LegalSettings.{ChannelCount, LegalSettings}
-use Rattle.sheet.specs.Sizes.{most_channels, most_row, most_buffer}
+use Rattle.sheet.specs.Sizes.{most_channels, most_buffer}
 use Rattle.sheet.specs.declared.settings.Settings.{Settings}
 use Rattle.frame.specs.Body.{bap_row, baps_of}
 use Rattle.frame.specs.Layout.{row_of, clean, clean_row, cleaned}
 use Rattle.frame.specs.LayoutLaws.{length-row, length-bap_row, length-clean_row}
-use Rattle.frame_rows.specs.Inner.{no_row, no_buffer}
 use Rattle.bits.specs.Walks.{lent-long}
-
--- ---- buffers that are all 0
-
-pub length-no_row : length no_row ≡ most_row
-unfolding no_row
-length-no_row = length-replicate {A = ℕ} most_row 0
-
-pub length-no_buffer : length no_buffer ≡ most_buffer
-unfolding no_buffer
-length-no_buffer = length-replicate {A = ℕ} most_buffer 0
 
 -- an entry of zeros is 0, and so is what stands past them
 pub zero-past : (n i : ℕ) → get_or {A = ℕ} (replicate n 0) i 0 ≡ 0
@@ -47,9 +35,9 @@ module _ (n : ℕ) (l ys : List ℕ) (fits : n ≤ length l) (kept : length ys �
   back-taken = front-taken n (n - 0) l ys (sub-zero n) back-length
 
 -- a buffer for the most channels, lent for those of a sheet
-module _ (channels : ℕ) (l : List ℕ) (e : l ≡ no_buffer) (most : channels ≤ most_channels) where
+module _ (channels : ℕ) (l : List ℕ) (long : length l ≡ most_buffer) (most : channels ≤ most_channels) where
   buffer-fits : 256 * channels * 6 ≤ length l
-  buffer-fits = omega (arith, ap length e ∙ length-no_buffer)
+  buffer-fits = omega arith
 
   pub front-lent : length (take (256 * channels * 6 - 0) l) ≡ 256 * channels * 6
   front-lent = rw length-take (omega (arith, buffer-fits))

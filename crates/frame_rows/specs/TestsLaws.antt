@@ -1,12 +1,13 @@
 -- The tests of causes 4 and 5 as the code makes them are those of the definitions.
-use Rattle.std.specs.Prelude.{ℕ, zero, suc, ◌+◌, ◌-◌, ◌*◌, ◌≤◌, ◌<◌, ◌≡◌, refl, true, false, cond, List, eqb, length, take, get_or}
-use Rattle.std.proofs.Common.{sym, ap, ap₂, true≢false, add-one, arith, drop_of_length-le, drop-cons, eq-eqb, ne_eqb}
+use Rattle.std.specs.Prelude.{ℕ, zero, suc, ◌-◌, ◌*◌, ◌<◌, ◌≡◌, refl, List, length, take}
+use Rattle.std.proofs.Common.{sym, ap, ap₂, arith}
 use Rattle.bits.specs.Parts.{piece}
+use Rattle.elements.specs.declared.set.ExponentSet.{ExponentSet}
+use Rattle.elements.specs.declared.set.ExponentSet.TheVariants.{Reuse, New}
+use Rattle.elements.specs.Strategy.{grpsize}
+use Rattle.elements.specs.declared.strategy.Strategy.{Strategy}
 use Rattle.mantissas.specs.Stream.{coded}
-use Rattle.shaping.specs.Passes.{is_span}
 use Rattle.shaping.specs.Shaped.{shaped_for}
-use Rattle.sheet.specs.declared.record.ExponentSet.{ExponentSet}
-use Rattle.sheet.specs.declared.record.ExponentSet.TheVariants.{Reuse, New}
 use Rattle.sheet.specs.Settings.{channels, end_at, set_at}
 use Rattle.sheet.specs.LegalSettings.{LegalSettings}
 use Rattle.sheet.specs.declared.settings.Settings.{Settings}
@@ -18,7 +19,7 @@ use Rattle.frame_rows.specs.CleanLaws.{all-below-same}
 use Rattle.frame_rows.specs.LegalLaws.{earlier-taken}
 use Rattle.frame.specs.Body.{baps_of}
 use Rattle.frame_rows.specs.RowsLaws.{row-baps, row-cleaned}
-use Rattle.frame_rows.specs.Tests.{rows_coded, alike_from}
+use Rattle.frame_rows.specs.Tests.{rows_coded}
 
 -- ---- codes
 
@@ -29,45 +30,21 @@ unfolding rows_coded codes_legal
 rows-coded settings exps codes under long =
     all-below-same 6 _ _ (λ b h. ap₂ coded (row-baps settings exps b h) (row-cleaned settings codes under long b h))
 
--- ---- two lists, from an entry on: what is left decides
-
-pub alike-start : (xs ys : List ℕ) → alike_from 0 xs ys ≡ alike xs ys
-unfolding alike_from
-alike-start xs ys = refl
-
-alike_at : (i : ℕ) (xs ys : List ℕ) → i < length xs → i < length ys → alike_from i xs ys ≡ cond (eqb (get_or xs i 0) (get_or ys i 0)) (alike_from (i + 1) xs ys) false
-unfolding alike_from alike
-alike_at i xs ys h l = rw (drop-cons xs i 0 h, drop-cons ys i 0 l, add-one)
-
-pub alike_next : (i : ℕ) (xs ys : List ℕ) → i < length xs → i < length ys → get_or xs i 0 ≡ get_or ys i 0 → alike_from (i + 1) xs ys ≡ alike_from i xs ys
-alike_next i xs ys h l e = rw (alike_at i xs ys h l, eq-eqb (get_or xs i 0) (get_or ys i 0) e)
-
-pub alike-differs : (i : ℕ) (xs ys : List ℕ) → i < length xs → i < length ys → (get_or xs i 0 ≡ get_or ys i 0 → ⊥) → false ≡ alike_from i xs ys
-alike-differs i xs ys h l e = rw (alike_at i xs ys h l, ne_eqb (get_or xs i 0) (get_or ys i 0) e)
-
-pub alike_end : (i : ℕ) (xs ys : List ℕ) → length xs ≤ i → length ys ≤ i → true ≡ alike_from i xs ys
-unfolding alike_from alike
-alike_end i xs ys h l = rw (drop_of_length-le xs h, drop_of_length-le ys l)
-
 -- ---- exponents
 
 pub part-reuse : (set : ExponentSet) (end : ℕ) (old part : List ℕ) → set ≡ Reuse → alike (take end old) (take end part) ≡ part_legal set end old part
 unfolding part_legal
 part-reuse set end old part e = rw e
 
-pub part-new : (set : ExponentSet) (span end : ℕ) (old part : List ℕ) → set ≡ New span → shaped_for (span - 1) (take end part) ≡ part_legal set end old part
+pub part-new : (set : ExponentSet) (strategy : Strategy) (end : ℕ) (old part : List ℕ) → set ≡ New strategy → shaped_for (grpsize strategy - 1) (take end part) ≡ part_legal set end old part
 unfolding part_legal
-part-new set span end old part e = rw e
-
-pub span-least : (span : ℕ) → is_span span ≡ true → 1 ≤ span
-span-least zero h = absurd (true≢false (sym h))
-span-least (suc span) h = omega arith
+part-new set strategy end old part e = rw e
 
 -- only a reuse block depends on the part before, and on what stands there below end
 part-after : (set : ExponentSet) (end : ℕ) (old other part : List ℕ) → (set ≡ Reuse → take end old ≡ take end other) → part_legal set end old part ≡ part_legal set end other part
 unfolding part_legal
 part-after Reuse end old other part h = ap (λ (l : List ℕ). alike l (take end part)) (h refl)
-part-after (New span) end old other part h = refl
+part-after (New strategy) end old other part h = refl
 
 -- so the block before may be taken as it stands in the buffer
 below_end : (settings : Settings) (exps : List ℕ) → LegalSettings settings → length exps ≡ 256 * channels settings * 6 → (b c : ℕ) → b < 6 → c < channels settings

@@ -5,9 +5,7 @@
 pub mod codes;
 pub mod legal;
 pub mod rows;
-pub mod zeros;
 
 pub use codes::clean_codes;
 pub use legal::{codes_legal, exps_legal};
 pub use rows::{allocate_body, allocate_row};
-pub use zeros::{no_bytes, no_codes, no_row, no_row_codes};

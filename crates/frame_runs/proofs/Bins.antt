@@ -1,17 +1,14 @@
 -- The turns of loops over the bins of a part: what is done, then what is left to do, is the whole.
 use Prim.Native.Nat.{ℕ, ◌+◌, ◌≤◌, ◌<◌, min}
-use mathlib.Core.Bool.{Bool, ◌&&◌}
 use mathlib.Core.List.{List, ◌++◌}
 use mathlib.Core.Path.{◌≡◌}
 use native.Mathlib.Numerals.{add-one}
 use native.Mathlib.Omega.{arith}
 use lib.Ieee.{Float, nan}
-use lib.Ieee.Scale.{finite}
 use lib.ListN.{length, take, drop, get_or, set, drop_of_length-le}
 use lib.Seq.{drop-cons, drop-set-lt}
 use Rattle.shaping.specs.Extract.{exponent_of}
 use Rattle.frame_runs.specs.FillingLaws.{stored, ended}
-use Rattle.frame_runs.specs.Finite.{finite_part}
 use Rattle.frame_runs.specs.Runs.{exponents_of, least_of}
 
 -- ---- the exponents of coefficients
@@ -37,9 +34,3 @@ module _ (xs : List Float) (part whole : List ℕ) (i : ℕ) (h : length part �
   pub lower-end : take i part ++ least_of (drop i part) (exponents_of (drop i xs)) ≡ whole → part ≡ whole
   unfolding least_of
   lower-end e = ended part _ whole i h (rw (drop_of_length-le part h)) e
-
--- ---- finite coefficients
-
-pub finite-step : (xs : List Float) (i : ℕ) (t : Bool) → i < length xs → t ≡ finite (get_or xs i nan) → finite_part (drop i xs) ≡ t && finite_part (drop (i + 1) xs)
-unfolding finite_part
-finite-step xs i t h e = rw (e, add-one, drop-cons xs i nan h)

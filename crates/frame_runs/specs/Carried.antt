@@ -1,11 +1,11 @@
 -- The exponents block by block as the code carries them from one to the next: a row holds those of the block before, and a reuse block
 -- leaves its part.
-use Rattle.std.specs.Prelude.{ℕ, zero, suc, ◌*◌, List, Float, take}
+use Rattle.std.specs.Prelude.{ℕ, zero, suc, ◌*◌, List, Float, take, replicate}
 use Rattle.bits.specs.Parts.{joined, piece}
 use Rattle.sheet.specs.Settings.{channels, set_at}
+use Rattle.sheet.specs.Sizes.{most_row}
 use Rattle.sheet.specs.declared.settings.Settings.{Settings}
 use Rattle.frame.specs.Layout.{by_set}
-use Rattle.frame_rows.specs.Inner.{no_row}
 use Rattle.frame_runs.specs.Runs.{run_part, part_at}
 
 -- a channel's part of block b, after the part `old` of the block before
@@ -22,5 +22,5 @@ row_at settings coeffs b = joined (channels settings) (part_at settings coeffs b
 
 -- the row that is carried when block b begins; block 0 leaves nothing of what was there before it
 unfoldable pub row_before : Settings → List Float → ℕ → List ℕ
-row_before settings coeffs zero = take (256 * channels settings) no_row
+row_before settings coeffs zero = take (256 * channels settings) (replicate most_row 0)
 row_before settings coeffs (suc b) = row_at settings coeffs b

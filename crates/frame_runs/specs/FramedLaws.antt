@@ -1,8 +1,8 @@
 -- Laws of a buffer of six blocks of C parts: its length, its rows and parts, and that it is clean where each part is.
-use Rattle.std.specs.Prelude.{ℕ, zero, suc, ◌+◌, ◌-◌, ◌*◌, ◌≤◌, ◌<◌, List, [], ◌∷◌, ◌≡◌, length, take, drop}
-use Rattle.std.proofs.Common.{sym, ◌∙◌, zero-add, suc-add, mul-add, mul_assoc, arith, take-take, drop-drop}
+use Rattle.std.specs.Prelude.{ℕ, ◌+◌, ◌-◌, ◌*◌, ◌≤◌, ◌<◌, List, ◌≡◌, length, take, drop}
+use Rattle.std.proofs.Common.{sym, ◌∙◌, mul-add, mul_assoc, arith, take-take, drop-drop}
 use Rattle.std.proofs.Math.Path.{ap}
-use Rattle.std.proofs.Math.Seq.{take-nil}
+use Rattle.std.proofs.lemmas.List.{drop-take}
 use Rattle.bits.specs.Parts.{joined, piece}
 use Rattle.bits.specs.PartsLaws.{joined-cong, joined_length, piece-joined, within}
 use Rattle.frame.specs.Layout.{row_of, clean, clean_row, below_end, framed, cleaned}
@@ -36,11 +36,6 @@ module _ (settings : Settings) (part : ℕ → ℕ → List ℕ) (long : (b c : 
 
 -- ---- a channel's part of a row, and of the buffer
 
-drop_of_take : (m n : ℕ) (l : List ℕ) → drop m (take (m + n) l) ≡ take n (drop m l)
-drop_of_take zero n l = rw (zero-add n)
-drop_of_take (suc m) n [] = rw (suc-add m n) (sym (take-nil n))
-drop_of_take (suc m) n (x ∷ l) = rw (suc-add m n) (drop_of_take m n l)
-
 pub below_row : (settings : Settings) (b c : ℕ) (l : List ℕ) → c < channels settings → end_at settings c ≤ 256
     → below_end settings b c l ≡ take (end_at settings c) (piece 256 c (row_of settings b l))
 unfolding below_end piece row_of
@@ -52,5 +47,5 @@ below_row settings b c l hc he =
     let split : 256 * n ≡ 256 * c + rest = omega (arith, w) in
     let start : 256 * n * b + 256 * c ≡ part_start n b c = rw (mul-add 256 (n * b) c, mul_assoc 256 n b) in
     sym (
-    rw (ap (λ (k : ℕ). take k row) split, drop_of_take (256 * c) rest row, take-take 256 rest (drop (256 * c) row) (omega (arith, w)), take-take (end_at settings c) 256 (drop (256 * c) row) he, drop-drop (256 * c) (256 * n * b) l, start)
+    rw (ap (λ (k : ℕ). take k row) split, drop-take (256 * c) rest row, take-take 256 rest (drop (256 * c) row) (omega (arith, w)), take-take (end_at settings c) 256 (drop (256 * c) row) he, drop-drop (256 * c) (256 * n * b) l, start)
     )

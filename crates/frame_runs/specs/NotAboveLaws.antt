@@ -6,11 +6,13 @@ use Rattle.std.proofs.Common.{ap, ◌∙◌, le_of_eq}
 use Rattle.std.proofs.Math.Decide.{dec_lt}
 use Rattle.std.proofs.Math.Nat.{add-zero, le_trans}
 use native.Mathlib.Omega.{arith}
+use Rattle.elements.specs.Strategy.{grpsize}
+use Rattle.elements.specs.declared.set.ExponentSet.TheVariants.{Reuse, New}
+use Rattle.elements.specs.declared.strategy.Strategy.{Strategy}
 use Rattle.frame.specs.Under.{channel-known, one_of_two, by-reuse, by-new}
 use Rattle.shaping.specs.Extract.{exponent_of}
 use Rattle.shaping.specs.Passes.{preprocessed}
 use Rattle.shaping.proofs.ShapedLaws.{preprocessed-not-above, quantised-not-above}
-use Rattle.sheet.specs.declared.record.ExponentSet.TheVariants.{Reuse, New}
 use Rattle.sheet.specs.Settings.{channels, end_at, set_at}
 use Rattle.sheet.specs.LegalSettings.{LegalSettings}
 use Rattle.sheet.specs.declared.settings.Settings.{Settings}
@@ -56,7 +58,7 @@ module _ (settings : Settings) (coeffs : List Float) (c i : ℕ) where
       let block = exponents_of (below_end settings b c coeffs) in
       one_of_two (set_at settings b c)
       (λ z. rw (by-reuse _ _ z) (le_trans (from_start left (suc b) (least_of least block)) (least-left least block i)))
-      (λ span z. rw (by-new _ _ span z) (omega arith))
+      (λ strategy z. rw (by-new _ _ strategy z) (omega arith))
 
   -- d blocks after b, where all up to there are reuse blocks
   from_block : (left b d : ℕ) (least : List ℕ) → d < left → ((j : ℕ) → j ≤ d → set_at settings (b + j) c ≡ Reuse)
@@ -94,23 +96,23 @@ module _ (settings : Settings) (coeffs : List Float) (under : LegalSettings sett
   -- the run of block b
   record RunOf (b : ℕ) : Type 0 where
     first : ℕ
-    span : ℕ
+    strategy : Strategy
     begins : first ≤ b
-    part : part_at settings coeffs b c ≡ run_part settings coeffs first c span
+    part : part_at settings coeffs b c ≡ run_part settings coeffs first c strategy
     reused : (j : ℕ) → first < j → j ≤ b → set_at settings j c ≡ Reuse
 
-  begun : (b span : ℕ) → set_at settings b c ≡ New span → RunOf b
-  begun b span new =
-      record { first = b; span = span; begins = omega arith; part = new-part settings coeffs under whole b c span new; reused = λ j k l. absurd (omega arith) }
+  begun : (b : ℕ) (strategy : Strategy) → set_at settings b c ≡ New strategy → RunOf b
+  begun b strategy new =
+      record { first = b; strategy = strategy; begins = omega arith; part = new-part settings coeffs under whole b c strategy new; reused = λ j k l. absurd (omega arith) }
 
   run_of : (b : ℕ) → b < 6 → RunOf b
-  run_of zero hb = first-new settings coeffs under whole c hc (λ span new. begun 0 span new)
-  run_of (suc b) hb = one_of_two (set_at settings (suc b) c) (λ z. goes_on z (run_of b (omega arith))) (λ span new. begun (suc b) span new)
+  run_of zero hb = first-new settings coeffs under whole c hc (λ strategy new. begun 0 strategy new)
+  run_of (suc b) hb = one_of_two (set_at settings (suc b) c) (λ z. goes_on z (run_of b (omega arith))) (λ strategy new. begun (suc b) strategy new)
     where
       goes_on : set_at settings (suc b) c ≡ Reuse → RunOf b → RunOf (suc b)
       goes_on z r = record {
         first = r.first;
-        span = r.span;
+        strategy = r.strategy;
         begins = omega (arith, r.begins);
         part = reuse-part settings coeffs under whole b c z ∙ r.part;
         reused = λ j k l. still j k l (dec_lt b j);
@@ -131,16 +133,16 @@ module _ (settings : Settings) (coeffs : List Float) (under : LegalSettings sett
       inside : i < length (below_end settings b c coeffs)
       inside = omega (arith, hi, whole_below settings b c coeffs under hb hc whole)
 
-      at-run : get_or (below_end settings b c (exps_of settings coeffs)) i 0 ≡ get_or (run_exponents settings coeffs r.first c r.span) i 0
+      at-run : get_or (below_end settings b c (exps_of settings coeffs)) i 0 ≡ get_or (run_exponents settings coeffs r.first c r.strategy) i 0
       at-run =
           ap (λ (l : List ℕ). get_or l i 0) (below_row settings b c (exps_of settings coeffs) hc (omega (arith, (channel-known settings under c hc).end-most))
           ∙ ap (take (end_at settings c)) (part-exps_of settings coeffs under whole b c hb hc ∙ r.part)
-          ∙ run-taken settings coeffs under whole r.first c (omega (arith, hb, r.begins)) hc r.span)
+          ∙ run-taken settings coeffs under whole r.first c (omega (arith, hb, r.begins)) hc r.strategy)
 
-      shaped : get_or (run_exponents settings coeffs r.first c r.span) i 0 ≤ get_or (run_least settings coeffs r.first c) i 0
+      shaped : get_or (run_exponents settings coeffs r.first c r.strategy) i 0 ≤ get_or (run_least settings coeffs r.first c) i 0
       shaped =
           let least = run_least settings coeffs r.first c in
-          unfold run_exponents in le_trans (quantised-not-above r.span (preprocessed least) i) (preprocessed-not-above least i)
+          unfold run_exponents in le_trans (quantised-not-above (grpsize r.strategy) (preprocessed least) i) (preprocessed-not-above least i)
 
       served : get_or (run_least settings coeffs r.first c) i 0 ≤ get_or (exponents_of (below_end settings b c coeffs)) i 0
       served = run-serves settings coeffs c i r.first b r.begins hb r.reused

@@ -4,11 +4,12 @@ use Rattle.std.specs.Prelude.{List, ◌≡◌, Float, length, take, drop, get_or
 use Rattle.std.proofs.Math.Path.{ap}
 use Rattle.std.proofs.Common.{◌∙◌, add-one, length-take, length-drop, get_or-take, get_or-drop}
 use native.Mathlib.Omega.{arith}
+use Rattle.elements.specs.declared.set.ExponentSet.TheVariants.{Reuse, New}
+use Rattle.elements.specs.declared.strategy.Strategy.{Strategy}
 use Rattle.frame.specs.Under.{channel-known, by-reuse, by-new}
 use Rattle.sheet.proofs.Laws.{part-within}
 use Rattle.sheet.specs.Layout.{part_start}
 use Rattle.sheet.specs.Inner.{PartStart}
-use Rattle.sheet.specs.declared.record.ExponentSet.TheVariants.{Reuse, New}
 use Rattle.sheet.specs.Settings.{channels, end_at, set_at}
 use Rattle.sheet.specs.LegalSettings.{ChannelCount, ChannelEnd, LegalSettings}
 use Rattle.sheet.specs.declared.settings.Settings.{Settings}
@@ -58,9 +59,9 @@ module _ (settings : Settings) (coeffs : List Float) (c b : ℕ) (least : List �
   run_on h l = let e : 6 - b ≡ suc (6 - (b + 1)) = omega arith in rw (e, by-reuse _ _ h, add-one)
 
   -- a new block ends it
-  pub run-stops : (span : ℕ) → set_at settings b c ≡ New span → b < 6 → least ≡ least_from settings coeffs c (6 - b) b least
+  pub run-stops : (strategy : Strategy) → set_at settings b c ≡ New strategy → b < 6 → least ≡ least_from settings coeffs c (6 - b) b least
   unfolding least_from
-  run-stops span h l = let e : 6 - b ≡ suc (5 - b) = omega arith in rw (e, by-new _ _ span h)
+  run-stops strategy h l = let e : 6 - b ≡ suc (5 - b) = omega arith in rw (e, by-new _ _ strategy h)
 
   -- and so does the frame's end
   pub run_ends : 6 ≤ b → least ≡ least_from settings coeffs c (6 - b) b least

@@ -8,16 +8,19 @@ use Rattle.std.proofs.Math.Path.{ap}
 use Rattle.std.proofs.Math.ListN.{replicate}
 use Rattle.std.proofs.Math.Seq.{take_at}
 use Rattle.bits.specs.Parts.{piece}
+use Rattle.elements.specs.Strategy.{grpsize}
+use Rattle.elements.specs.declared.set.ExponentSet.TheVariants.{Reuse, New}
+use Rattle.elements.specs.declared.strategy.Strategy.{Strategy}
 use Rattle.frame.specs.Layout.{row_of, clean, cleaned}
 use Rattle.frame.specs.Legal.{part_legal, row_legal, exps_legal}
 use Rattle.frame.specs.LegalLaws.{alike-itself}
 use Rattle.frame.specs.Reader.{earlier}
-use Rattle.frame.specs.Under.{channel-known, known-set, one_of_two, by-reuse, by-new}
+use Rattle.frame.specs.Under.{channel-known, one_of_two, by-reuse, by-new}
 use Rattle.frame_rows.specs.LegalLaws.{earlier-taken}
+use Rattle.shaping.specs.GroupsLaws.{is_span-grpsize}
 use Rattle.shaping.specs.Shaped.{shaped_for}
 use Rattle.shaping.proofs.ShapedLaws.{run-shaped, shaped_of}
 use Rattle.sheet.specs.Tests.{all_hold}
-use Rattle.sheet.specs.declared.record.ExponentSet.TheVariants.{Reuse, New}
 use Rattle.sheet.specs.Settings.{channels, end_at, set_at}
 use Rattle.sheet.specs.LegalSettings.{LegalSettings}
 use Rattle.sheet.specs.declared.settings.Settings.{Settings}
@@ -31,49 +34,49 @@ legal-reuse : (end : ℕ) (old part : List ℕ) → take end old ≡ take end pa
 unfolding part_legal
 legal-reuse end old part e = rw e (alike-itself (take end part))
 
-legal-new : (span end : ℕ) (old part : List ℕ) → shaped_for (span - 1) (take end part) ≡ true → part_legal (New span) end old part ≡ true
+legal-new : (strategy : Strategy) (end : ℕ) (old part : List ℕ) → shaped_for (grpsize strategy - 1) (take end part) ≡ true → part_legal (New strategy) end old part ≡ true
 unfolding part_legal
-legal-new span end old part h = h
+legal-new strategy end old part h = h
 
 module _ (settings : Settings) (coeffs : List Float) (under : LegalSettings settings) (whole : length coeffs ≡ 256 * channels settings * 6) where
   -- ---- a channel's part of a block
 
-  module _ (b c : ℕ) (hb : b < 6) (hc : c < channels settings) (span : ℕ) where
-    pub run-taken : take (end_at settings c) (run_part settings coeffs b c span) ≡ run_exponents settings coeffs b c span
+  module _ (b c : ℕ) (hb : b < 6) (hc : c < channels settings) (strategy : Strategy) where
+    pub run-taken : take (end_at settings c) (run_part settings coeffs b c strategy) ≡ run_exponents settings coeffs b c strategy
     unfolding run_part
-    run-taken = take_at (run_exponents settings coeffs b c span) _ (end_at settings c) (length-run_exponents settings coeffs under whole c hc b hb span)
+    run-taken = take_at (run_exponents settings coeffs b c strategy) _ (end_at settings c) (length-run_exponents settings coeffs under whole c hc b hb strategy)
 
-    run-clean : clean (end_at settings c) (run_part settings coeffs b c span) ≡ run_part settings coeffs b c span
+    run-clean : clean (end_at settings c) (run_part settings coeffs b c strategy) ≡ run_part settings coeffs b c strategy
     unfolding clean run_part
     run-clean = ap (λ (l : List ℕ). l ++ replicate (256 - end_at settings c) 0) run-taken
 
-    run-legal : (old : List ℕ) → set_at settings b c ≡ New span → part_legal (New span) (end_at settings c) old (run_part settings coeffs b c span) ≡ true
+    run-legal : (old : List ℕ) → part_legal (New strategy) (end_at settings c) old (run_part settings coeffs b c strategy) ≡ true
     unfolding run_exponents
-    run-legal old new =
+    run-legal old =
         let least = length-run_least settings coeffs under whole c hc b hb in
         let most = (channel-known settings under c hc).end-most in
-        legal-new span (end_at settings c) old (run_part settings coeffs b c span)
-        (rw run-taken (shaped_of _ _ (run-shaped span (run_least settings coeffs b c) ((known-set settings under b c).known span new) (omega arith))))
+        legal-new strategy (end_at settings c) old (run_part settings coeffs b c strategy)
+        (rw run-taken (shaped_of _ _ (run-shaped (grpsize strategy) (run_least settings coeffs b c) (is_span-grpsize strategy) (omega arith))))
 
   pub reuse-part : (b c : ℕ) → set_at settings (suc b) c ≡ Reuse → part_at settings coeffs (suc b) c ≡ part_at settings coeffs b c
   unfolding part_at
   reuse-part b c z = by-reuse _ _ z
 
-  pub new-part : (b c span : ℕ) → set_at settings b c ≡ New span → part_at settings coeffs b c ≡ run_part settings coeffs b c span
+  pub new-part : (b c : ℕ) (strategy : Strategy) → set_at settings b c ≡ New strategy → part_at settings coeffs b c ≡ run_part settings coeffs b c strategy
   unfolding part_at
-  new-part zero c span new = by-new _ _ span new
-  new-part (suc b) c span new = by-new _ _ span new
+  new-part zero c strategy new = by-new _ _ strategy new
+  new-part (suc b) c strategy new = by-new _ _ strategy new
 
   -- block 0 has a new set
-  pub first-new : {X : Type 0} (c : ℕ) → c < channels settings → ((span : ℕ) → set_at settings 0 c ≡ New span → X) → X
+  pub first-new : {X : Type 0} (c : ℕ) → c < channels settings → ((strategy : Strategy) → set_at settings 0 c ≡ New strategy → X) → X
   first-new c hc = one_of_two (set_at settings 0 c) (λ z. absurd ((channel-known settings under c hc).first z))
 
   part-clean : (b c : ℕ) → b < 6 → c < channels settings → clean (end_at settings c) (part_at settings coeffs b c) ≡ part_at settings coeffs b c
-  part-clean zero c hb hc = first-new c hc (λ span new. rw (new-part 0 c span new) (run-clean 0 c hb hc span))
+  part-clean zero c hb hc = first-new c hc (λ strategy new. rw (new-part 0 c strategy new) (run-clean 0 c hb hc strategy))
   part-clean (suc b) c hb hc =
       one_of_two (set_at settings (suc b) c)
       (λ z. rw (reuse-part b c z) (part-clean b c (omega arith) hc))
-      (λ span new. rw (new-part (suc b) c span new) (run-clean (suc b) c hb hc span))
+      (λ strategy new. rw (new-part (suc b) c strategy new) (run-clean (suc b) c hb hc strategy))
 
   -- ---- the frame
 
@@ -95,13 +98,13 @@ module _ (settings : Settings) (coeffs : List Float) (under : LegalSettings sett
 
   part-legal : (b c : ℕ) → b < 6 → c < channels settings
       → part_legal (set_at settings b c) (end_at settings c) (piece 256 c (earlier settings (exps_of settings coeffs) b)) (part_at settings coeffs b c) ≡ true
-  part-legal zero c hb hc = first-new c hc (λ span new. rw (new-part 0 c span new, new) (run-legal 0 c hb hc span _ new))
+  part-legal zero c hb hc = first-new c hc (λ strategy new. rw (new-part 0 c strategy new, new) (run-legal 0 c hb hc strategy _))
   part-legal (suc b) c hb hc =
       let exps = exps_of settings coeffs in
       one_of_two (set_at settings (suc b) c)
       (λ z. rw z (legal-reuse (end_at settings c) (piece 256 c (earlier settings exps (suc b))) (part_at settings coeffs (suc b) c)
       (earlier-taken settings exps under length-exps_of b c hb hc ∙ ap (take (end_at settings c)) (part-exps_of b c (omega arith) hc ∙ sym (reuse-part b c z)))))
-      (λ span new. rw (new-part (suc b) c span new, new) (run-legal (suc b) c hb hc span _ new))
+      (λ strategy new. rw (new-part (suc b) c strategy new, new) (run-legal (suc b) c hb hc strategy _))
 
   row-legal : (b : ℕ) → b < 6 → row_legal settings b (earlier settings (exps_of settings coeffs) b) (row_of settings b (exps_of settings coeffs)) ≡ true
   unfolding row_legal

@@ -1,28 +1,29 @@
 -- Laws of the entries: one for each way through them.
-use Rattle.std.specs.Prelude.{◌≡◌, refl, Bool, true, false, ◌&&◌, List, [], ◌∷◌, ℕ, ◌*◌, ◌/◌, ◌%◌, ◌<◌, eqb, ltb, Float, set}
-use Rattle.std.proofs.Math.Path.{sym, ap}
-use Rattle.std.proofs.Common.{◌∙◌, arith}
+use Rattle.std.specs.Prelude.{◌≡◌, refl, Bool, true, false, ◌&&◌, List, [], ◌∷◌, ℕ, ◌*◌, ◌/◌, ◌%◌, ◌<◌, Float, Result, Ok, Err, eqb, ltb, length, replicate, set}
+use Rattle.std.specs.Result.{result_unwrap_or}
+use Rattle.std.proofs.Common.{◌∙◌, sym, ap, arith}
 use borrow.Author.Tests.{eqb-true, eqb-false, eq-eqb, ne_eqb, ltb-true}
-use Rattle.std.proofs.Math.ListN.{length, replicate}
 use Rattle.allocation.specs.Allocation.{answer_of, left_in}
-use Rattle.bits.specs.Answer.{output_of}
-use Rattle.bits.specs.Refusal as refusal
-use Rattle.bits.specs.declared.answer.Answer.{Answer}
+use Rattle.bits.specs.Answer.{number, given, checked, output_of}
+use Rattle.bits.specs.Refusal.{number_of}
 use Rattle.bits.specs.Tests.{by_bool}
+use Rattle.bits.specs.declared.refusal.Refusal.{Refusal}
+use Rattle.bits.specs.declared.refusal.Refusal.TheVariants as refusal
+use Rattle.elements.specs.declared.set.ExponentSet.{ExponentSet}
 use Rattle.frame.specs.Answers.{body_left}
-use Rattle.frame.specs.declared.answer.FrameAnswer.{FrameAnswer}
+use Rattle.frame.specs.declared.answer.BodyBits.{BodyBits}
 use Rattle.frame_encoder.specs.Encode.{left}
-use Rattle.shaping.specs.Strategies.{select_refusal, selected}
+use Rattle.shaping.specs.Strategies.{selected}
 use Rattle.sheet.proofs.CauseLaws.{beside-accepted}
-use Rattle.sheet.specs.Common.{common_of, channels_of}
 use Rattle.sheet.proofs.Laws.{legal-sheet}
+use Rattle.sheet.proofs.SettingsLaws.{settings-common, settings-record}
+use Rattle.sheet.specs.Common.{common_of, channels_of}
 use Rattle.sheet.specs.Record.{record_of}
 use Rattle.sheet.specs.Settings.{settings_of, record_at, end_at}
-use Rattle.sheet.proofs.SettingsLaws.{settings-common, settings-record}
 use Rattle.sheet.specs.Sheet.{check_of}
 use Rattle.sheet.specs.declared.common_part.Common.{Common}
 use Rattle.sheet.specs.declared.record.ChannelRecord.{ChannelRecord}
-use Rattle.host.specs.Entries.{length_first, range_first, sheet_first, returned, if_called, select_number, rows_of, select_rows, allocation_check, allocation_number, allocation_left, right_slots, one_each}
+use Rattle.host.specs.Entries.{length_first, range_first, slot_number, sheet_first, returned, if_called, select_number, rows_of, rows_or_0, select_rows, allocation_check, allocation_answer, allocation_left, nothing, right_slots, one_each}
 
 -- a store to the one entry
 pub set-one : {A : Type 0} (l : List A) (v : A) → length l ≡ 1 → set l 0 v ≡ v ∷ []
@@ -32,43 +33,48 @@ set-one (x ∷ y ∷ l) v h = absurd (omega arith)
 
 -- ---- the number
 
-module _ (right : Bool) (number : ℕ) where
-  pub length-wrong : right ≡ false → refusal.wrong_length ≡ length_first right number
+-- of a sheet that is refused, and of one that is accepted
+refused-number : (check : Result (Unit {0}) Refusal) → (check ≡ Ok tt → ⊥) → number check ≡ number (checked {A = Unit {0}} check (Err refusal.WrongLength))
+refused-number (Ok tt) h = absurd (h refl)
+refused-number (Err fault) h = refl
+
+module _ {A : Type 0} (right : Bool) (answer : Result A Refusal) where
+  pub length-wrong : right ≡ false → number_of refusal.WrongLength ≡ length_first right answer
   unfolding length_first
   length-wrong e = rw e
 
-  pub length-right : right ≡ true → number ≡ length_first right number
+  pub length-right : right ≡ true → number answer ≡ length_first right answer
   unfolding length_first
   length-right e = rw e
 
   module _ (in_range : Bool) where
-    pub range_length : right ≡ false → in_range ≡ true → refusal.wrong_length ≡ range_first in_range right number
+    pub range_length : right ≡ false → in_range ≡ true → number_of refusal.WrongLength ≡ range_first in_range right answer
     unfolding range_first
     range_length e h = rw (e, h)
 
-    pub range-fault : right ≡ false → in_range ≡ false → refusal.out_of_range ≡ range_first in_range right number
+    pub range-fault : right ≡ false → in_range ≡ false → number_of refusal.OutOfRange ≡ range_first in_range right answer
     unfolding range_first
     range-fault e h = rw (e, h)
 
-    range-right : right ≡ true → number ≡ range_first in_range right number
+    pub range-right : right ≡ true → number answer ≡ range_first in_range right answer
     unfolding range_first
     range-right e = rw e
 
   module _ (sheet : List ℕ) where
-    pub sheet-fault : right ≡ false → (check_of sheet ≡ refusal.accepted → ⊥) → check_of sheet ≡ sheet_first sheet right number
-    unfolding sheet_first
-    sheet-fault e h = rw (e, ne_eqb (check_of sheet) refusal.accepted h)
+    pub sheet-fault : right ≡ false → (check_of sheet ≡ Ok tt → ⊥) → number (check_of sheet) ≡ sheet_first sheet right answer
+    unfolding sheet_first slot_number
+    sheet-fault e h = rw e (refused-number (check_of sheet) h)
 
-    pub sheet-length : right ≡ false → check_of sheet ≡ refusal.accepted → refusal.wrong_length ≡ sheet_first sheet right number
-    unfolding sheet_first
-    sheet-length e h = rw (e, eq-eqb (check_of sheet) refusal.accepted h)
+    pub sheet-length : right ≡ false → check_of sheet ≡ Ok tt → number_of refusal.WrongLength ≡ sheet_first sheet right answer
+    unfolding sheet_first slot_number
+    sheet-length e h = rw (e, h)
 
-    -- where a result slice is wrong the call's number does not matter
-    pub sheet-wrong : (r : ℕ) → right ≡ false → r ≡ sheet_first sheet false 0 → r ≡ sheet_first sheet right number
+    -- where a result slice is wrong the call's answer does not matter
+    pub sheet-wrong : (r : ℕ) → right ≡ false → r ≡ slot_number sheet → r ≡ sheet_first sheet right answer
     unfolding sheet_first
     sheet-wrong r e q = q ∙ rw e
 
-    pub sheet-right : right ≡ true → number ≡ sheet_first sheet right number
+    pub sheet-right : right ≡ true → number answer ≡ sheet_first sheet right answer
     unfolding sheet_first
     sheet-right e = rw e
 
@@ -93,35 +99,38 @@ module _ {A : Type 0} (right : Bool) (after before : List A) where
   called now' e q = q ∙ rw e
 
 module _ (right : Bool) (bits : List Bool) (before now' : List ℕ) (e : right ≡ true) where
-  pub called-output : (a b : Answer) → a ≡ b → now' ≡ output_of a bits before → now' ≡ if_called right (output_of b bits before) before
-  called-output a b p q = called right (output_of b bits before) before now' e (q ∙ ap (λ (x : Answer). output_of x bits before) p)
+  pub called-output : {A : Type 0} (a b : Result A Refusal) → a ≡ b → now' ≡ output_of a bits before → now' ≡ if_called right (output_of b bits before) before
+  called-output {A} a b p q = called right (output_of b bits before) before now' e (q ∙ ap (λ (x : Result A Refusal). output_of x bits before) p)
 
-  pub called-body : (a b : FrameAnswer) → a ≡ b → now' ≡ body_left a bits before → now' ≡ if_called right (body_left b bits before) before
-  called-body a b p q = called right (body_left b bits before) before now' e (q ∙ ap (λ (x : FrameAnswer). body_left x bits before) p)
+  pub called-body : (a b : Result BodyBits Refusal) → a ≡ b → now' ≡ body_left a bits before → now' ≡ if_called right (body_left b bits before) before
+  called-body a b p q = called right (body_left b bits before) before now' e (q ∙ ap (λ (x : Result BodyBits Refusal). body_left x bits before) p)
 
-pub called-left : (right : Bool) (new before now' : List ℕ) → right ≡ true → (a b : FrameAnswer) → a ≡ b → now' ≡ left a new before
+pub called-left : (right : Bool) (new before now' : List ℕ) → right ≡ true → (a b : Result BodyBits Refusal) → a ≡ b → now' ≡ left a new before
     → now' ≡ if_called right (left b new before) before
-called-left right new before now' e a b p q = called right (left b new before) before now' e (q ∙ ap (λ (x : FrameAnswer). left x new before) p)
+called-left right new before now' e a b p q =
+    called right (left b new before) before now' e (q ∙ ap (λ (x : Result BodyBits Refusal). left x new before) p)
 
 -- ---- the answer of a call that is made
 
-module _ (a b : Answer) (e : a ≡ b) where
-  pub length-called : (right : Bool) → right ≡ true → a.refusal ≡ length_first right b.refusal
-  length-called right h = ap (λ (x : Answer). x.refusal) e ∙ length-right right b.refusal h
+module _ {A : Type 0} (a b : Result A Refusal) (e : a ≡ b) (right : Bool) (h : right ≡ true) where
+  pub length-called : number a ≡ length_first right b
+  length-called = ap (λ (x : Result A Refusal). number x) e ∙ length-right right b h
 
-  pub range-called : (right in_range : Bool) → right ≡ true → a.refusal ≡ range_first in_range right b.refusal
-  range-called right in_range h = ap (λ (x : Answer). x.refusal) e ∙ range-right right b.refusal in_range h
+  pub range-called : (in_range : Bool) → number a ≡ range_first in_range right b
+  range-called in_range = ap (λ (x : Result A Refusal). number x) e ∙ range-right right b in_range h
 
-  -- its value in the one entry
-  pub value-holds : (slot slot' : List ℕ) → length slot ≡ 1 → slot' ≡ a.value ∷ [] → slot' ≡ returned 1 (b.value ∷ []) slot
-  value-holds slot slot' h q = slot-holds 1 (b.value ∷ []) slot slot' h (q ∙ ap (λ (x : Answer). x.value ∷ []) e)
+  pub frame-called : (sheet : List ℕ) → number a ≡ sheet_first sheet right b
+  frame-called sheet = ap (λ (x : Result A Refusal). number x) e ∙ sheet-right right b sheet h
 
-module _ (a b : FrameAnswer) (e : a ≡ b) where
-  pub frame-called : (right : Bool) (sheet : List ℕ) → right ≡ true → a.refusal ≡ sheet_first sheet right b.refusal
-  frame-called right sheet h = ap (λ (x : FrameAnswer). x.refusal) e ∙ sheet-right right b.refusal sheet h
+-- its value in the one entry
+pub value-holds : (a b : Result ℕ Refusal) → a ≡ b → (slot slot' : List ℕ) → length slot ≡ 1 → slot' ≡ given a ∷ [] → slot' ≡ returned 1 (given b ∷ []) slot
+value-holds a b e slot slot' h q = slot-holds 1 (given b ∷ []) slot slot' h (q ∙ ap (λ (x : Result ℕ Refusal). given x ∷ []) e)
 
-  pub counts-hold : (slot slot' : List ℕ) → length slot ≡ 12 → slot' ≡ a.counts → slot' ≡ returned 12 b.counts slot
-  counts-hold slot slot' h q = slot-holds 12 b.counts slot slot' h (q ∙ ap (λ (x : FrameAnswer). x.counts) e)
+-- a frame's counts in the twelve
+pub counts-hold : (a b : Result BodyBits Refusal) → a ≡ b → (slot slot' : List ℕ) → length slot ≡ 12 → slot' ≡ (result_unwrap_or a nothing).counts
+    → slot' ≡ returned 12 (result_unwrap_or b nothing).counts slot
+counts-hold a b e slot slot' h q =
+    slot-holds 12 (result_unwrap_or b nothing).counts slot slot' h (q ∙ ap (λ (x : Result BodyBits Refusal). (result_unwrap_or x nothing).counts) e)
 
 -- ---- the reader's two result slices
 
@@ -179,50 +188,70 @@ six-times n k =
     rw (z, ne_eqb (n / 6) k (λ q. h (omega (arith, whole, q)))))
     (λ z. rw z)))
 
+-- no other answer has the number 2
+other-number : {A : Type 0} (answer : Result A Refusal) → (answer ≡ Err refusal.OutOfRange → ⊥) → eqb (number answer) (number_of refusal.OutOfRange) ≡ false
+other-number (Ok value) h = refl
+other-number (Err refusal.Structure) h = refl
+other-number (Err refusal.OutOfRange) h = absurd (h refl)
+other-number (Err refusal.NotFinite) h = refl
+other-number (Err refusal.BadExponent) h = refl
+other-number (Err refusal.BadCode) h = refl
+other-number (Err refusal.NoRoom) h = refl
+other-number (Err refusal.PastInput) h = refl
+other-number (Err refusal.BadGroup) h = refl
+other-number (Err refusal.NoCode) h = refl
+other-number (Err refusal.WrongLength) h = refl
+other-number (Err refusal.OutOfOrder) h = refl
+
 module _ (exps ends : List ℕ) (right : Bool) where
-  pub select-range : right ≡ false → select_refusal exps ends ≡ refusal.out_of_range → refusal.out_of_range ≡ select_number exps ends right
+  pub select-range : right ≡ false → selected exps ends ≡ Err refusal.OutOfRange → number_of refusal.OutOfRange ≡ select_number exps ends right
   unfolding select_number range_first
-  select-range h e = rw (h, eq-eqb (select_refusal exps ends) refusal.out_of_range e)
+  select-range h e = rw (h, e)
 
-  pub select-length : right ≡ false → (select_refusal exps ends ≡ refusal.out_of_range → ⊥) → refusal.wrong_length ≡ select_number exps ends right
+  pub select-length : right ≡ false → (selected exps ends ≡ Err refusal.OutOfRange → ⊥) → number_of refusal.WrongLength ≡ select_number exps ends right
   unfolding select_number range_first
-  select-length h e = rw (h, ne_eqb (select_refusal exps ends) refusal.out_of_range e)
+  select-length h e = rw (h, other-number (selected exps ends) e)
 
-  pub select-right : right ≡ true → select_refusal exps ends ≡ select_number exps ends right
+  pub select-right : right ≡ true → number (selected exps ends) ≡ select_number exps ends right
   unfolding select_number range_first
   select-right h = rw h
 
+-- rows of an answer that is refused
+no-rows : (rows : ℕ) (answer : Result (List (List ExponentSet)) Refusal) → ((table : List (List ExponentSet)) → answer ≡ Ok table → ⊥)
+    → replicate (6 * rows) 0 ≡ rows_or_0 rows answer
+no-rows rows (Ok table) h = absurd (h table refl)
+no-rows rows (Err fault) h = refl
+
 module _ (exps ends slot slot' : List ℕ) (long : length slot ≡ 6 * length ends) where
-  pub zeros-returned : (select_refusal exps ends ≡ refusal.accepted → ⊥) → slot' ≡ replicate (length slot) 0
+  pub zeros-returned : ((table : List (List ExponentSet)) → selected exps ends ≡ Ok table → ⊥) → slot' ≡ replicate (length slot) 0
       → slot' ≡ returned (6 * length ends) (select_rows exps ends) slot
   unfolding select_rows
   zeros-returned e q =
       slot-holds (6 * length ends) _ slot slot' long
-      (q ∙ ap (λ (n : ℕ). replicate n 0) long ∙ rw (ne_eqb (select_refusal exps ends) refusal.accepted e))
+      (q ∙ ap (λ (n : ℕ). replicate n 0) long ∙ no-rows (length ends) (selected exps ends) e)
 
-  pub rows-returned : select_refusal exps ends ≡ refusal.accepted → slot' ≡ rows_of (selected exps ends) (length ends)
+  pub rows-returned : (table : List (List ExponentSet)) → selected exps ends ≡ Ok table → slot' ≡ rows_of table (length ends)
       → slot' ≡ returned (6 * length ends) (select_rows exps ends) slot
   unfolding select_rows
-  rows-returned e q = slot-holds (6 * length ends) _ slot slot' long (q ∙ rw (eq-eqb (select_refusal exps ends) refusal.accepted e))
+  rows-returned table e q = slot-holds (6 * length ends) _ slot slot' long (q ∙ rw e)
 
 -- ---- the allocation
 
 module _ (sheet : List ℕ) (channel : ℕ) (exp bap : List ℕ) where
-  pub allocation-refused : (allocation_check sheet channel ≡ refusal.accepted → ⊥)
-      → (allocation_check sheet channel ≡ allocation_number sheet channel exp (length bap)) × (bap ≡ allocation_left sheet channel exp bap)
-  unfolding allocation_number allocation_left
-  allocation-refused h = (rw (ne_eqb (allocation_check sheet channel) refusal.accepted h), rw (ne_eqb (allocation_check sheet channel) refusal.accepted h))
+  pub allocation-refused : (fault : Refusal) → allocation_check sheet channel ≡ Err fault
+      → (Err fault ≡ allocation_answer sheet channel exp (length bap)) × (bap ≡ allocation_left sheet channel exp bap)
+  unfolding allocation_answer allocation_left
+  allocation-refused fault h = (rw h, rw h)
 
   -- an accepted sheet's settings hold what stands among its bytes
-  pub allocation-called : (common : Common) (chosen : ChannelRecord) (number : ℕ) (bap' : List ℕ) → allocation_check sheet channel ≡ refusal.accepted
+  pub allocation-called : (common : Common) (chosen : ChannelRecord) (answer : Result (Unit {0}) Refusal) (bap' : List ℕ) → allocation_check sheet channel ≡ Ok tt
       → common ≡ common_of sheet → chosen ≡ record_of sheet channel
-      → number ≡ answer_of common chosen chosen.end exp (length bap) → bap' ≡ left_in common chosen chosen.end exp bap
-      → (number ≡ allocation_number sheet channel exp (length bap)) × (bap' ≡ allocation_left sheet channel exp bap)
-  unfolding allocation_number allocation_left end_at
-  allocation-called common chosen number bap' e p q a l =
+      → answer ≡ answer_of common chosen chosen.end exp (length bap) → bap' ≡ left_in common chosen chosen.end exp bap
+      → (answer ≡ allocation_answer sheet channel exp (length bap)) × (bap' ≡ allocation_left sheet channel exp bap)
+  unfolding allocation_answer allocation_left end_at
+  allocation-called common chosen answer bap' e p q a l =
       let both = beside-accepted sheet (ltb channel (channels_of (common_of sheet))) e in
       let few : channel < 6 = omega (arith, ltb-true channel (channels_of (common_of sheet)) both.0, (legal-sheet sheet both.1).common.channels-most) in
       let same : common ≡ (settings_of sheet).common = p ∙ sym (settings-common sheet both.1) in
       let is : chosen ≡ record_at (settings_of sheet) channel = q ∙ sym (settings-record sheet both.1 channel few) in
-      let passes = eq-eqb (allocation_check sheet channel) refusal.accepted e in
-      (rw passes (rw (same, is) at a), rw passes (rw (same, is) at l))
+      (rw e (rw (same, is) at a), rw e (rw (same, is) at l))

@@ -1,61 +1,40 @@
 // The small result slices, which hold what a call returns.
-ghost use Rattle.std.specs.Prelude.{◌≡◌, [], ◌∷◌, ◌*◌, ◌≤◌, length};
-ghost use Rattle.host.specs.Entries.{rows_of};
+ghost use Rattle.std.specs.Prelude.{◌≡◌, [], ◌∷◌, ◌*◌, ◌≤◌, length, map};
+ghost use Rattle.elements.specs.Strategy.{code_of_set};
+ghost use Rattle.host.specs.Entries.{returned, rows_of};
 
-pub(crate) fn return_byte(slot: &mut [u8], value: u8)
-    requires { length slot.old ≡ 1 }
-    ensures { slot.new ≡ value ∷ [] }
+use elements::ExponentSet;
+
+// A result slice of one entry holds the value; another is left. By index: of `copy_from_slice` a test of overlap would stay in each entry.
+#[tactic(auto, unfolding(crate::specs::Entries::returned))]
+pub(crate) fn return_one<T: Copy>(slot: &mut [T], value: T)
+    ensures { slot.new ≡ returned 1 (value ∷ []) slot.old }
 {
-    slot[0] = value;
+    if slot.len() == 1 {
+        slot[0] = value;
+    }
 }
 
-pub(crate) fn return_code(slot: &mut [u16], value: u16)
-    requires { length slot.old ≡ 1 }
-    ensures { slot.new ≡ value ∷ [] }
+// A result slice of their number holds the values; another is left.
+#[tactic(auto, unfolding(crate::specs::Entries::returned))]
+pub(crate) fn return_all<T: Copy, const N: usize>(slot: &mut [T], values: [T; N])
+    ensures { slot.new ≡ returned N values slot.old }
 {
-    slot[0] = value;
+    if slot.len() == N {
+        slot.copy_from_slice(&values);
+    }
 }
 
-pub(crate) fn return_count(slot: &mut [u32], value: u32)
-    requires { length slot.old ≡ 1 }
-    ensures { slot.new ≡ value ∷ [] }
-{
-    slot[0] = value;
-}
-
-pub(crate) fn return_level(slot: &mut [f32], value: f32)
-    requires { length slot.old ≡ 1 }
-    ensures { slot.new ≡ value ∷ [] }
-{
-    slot[0] = value;
-}
-
-// The mantissa bits of six blocks.
-pub(crate) fn return_six(slot: &mut [u32], values: [u32; 6])
+// The codes of one row of a table.
+fn return_row(slot: &mut [u8], row: [ExponentSet; 6])
     requires { length slot.old ≡ 6 }
-    ensures { slot.new ≡ values }
+    ensures { slot.new ≡ map code_of_set row }
 {
-    slices::copy_counts(&values, slot);
+    slot.copy_from_slice(&row.map(ExponentSet::code));
 }
 
-// The twelve counts of a frame.
-pub(crate) fn return_twelve(slot: &mut [u32], values: [u32; 12])
-    requires { length slot.old ≡ 12 }
-    ensures { slot.new ≡ values }
-{
-    slices::copy_counts(&values, slot);
-}
-
-// One row of a table.
-fn return_row(slot: &mut [u8], row: [u8; 6])
-    requires { length slot.old ≡ 6 }
-    ensures { slot.new ≡ row }
-{
-    slices::copy(&row, slot);
-}
-
-// The first rows of a table, one after the other.
-pub(crate) fn return_rows(slot: &mut [u8], table: [[u8; 6]; 6], rows: usize)
+// The codes of the first rows of a table, one row after the other.
+pub(crate) fn return_rows(slot: &mut [u8], table: [[ExponentSet; 6]; 6], rows: usize)
     requires { (rows ≤ 6) × (length slot.old ≡ 6 * rows) }
     ensures { slot.new ≡ rows_of table rows }
 {

@@ -3,20 +3,13 @@ ghost use Rattle.std.specs.Prelude.{◌≡◌, ◌+◌, ◌*◌, ◌≤◌, ◌<
 ghost use Rattle.sheet.specs.Sizes.{most_buffer};
 ghost use Rattle.input.specs.Input.{pattern_at, coefficients_in};
 
-fn wide(x: u8) -> u32
-    ensures { (result ≡ x) × (result < 256) }
-{
-    x as u32
-}
-
+// `replay` has the same line, since no crate is below both programs alone.
+#[tactic(auto, unfolding(crate::specs::Input::pattern_at))]
 fn pattern_at(bytes: &[u8], at: usize) -> u32
     requires { at + 4 ≤ length bytes.now }
     ensures { result ≡ pattern_at bytes.now at }
 {
-    16777216 * wide(bytes[at])
-        + 65536 * wide(bytes[at + 1])
-        + 256 * wide(bytes[at + 2])
-        + wide(bytes[at + 3])
+    u32::from_be_bytes([bytes[at], bytes[at + 1], bytes[at + 2], bytes[at + 3]])
 }
 
 // The coefficients of four times as many bytes.

@@ -6,73 +6,55 @@ ghost use Rattle.input.specs.Input.{sheet_size, coefficients_in};
 ghost use Rattle.input.specs.Program.{body_room, program_answer};
 
 use crate::coefficients::read_coefficients;
-use bits::refusal::{ACCEPTED, WRONG_LENGTH};
-use frame::FrameAnswer;
-use sheet::MOST_BUFFER;
+use bits::Refusal;
+use frame::BodyBits;
+use sheet::read::byte_at;
+use sheet::{MOST_BUFFER, Track};
 
 // Where the sheet ends, by its own length.
+#[tactic(auto, unfolding(crate::specs::Input::sheet_size))]
 fn sheet_size(input: &[u8]) -> usize
     ensures { (result ≡ sheet_size input.now) × (result ≤ length input.now) }
 {
-    let high = sheet::read::wide(sheet::read::byte_at(input, 0));
-    let low = sheet::read::wide(sheet::read::byte_at(input, 1));
-    let size = 2 + (256 * high + low);
-    if size < input.len() {
-        size
-    } else {
-        input.len()
-    }
+    let length = u16::from_be_bytes([byte_at(input, 0), byte_at(input, 1)]);
+    (2 + usize::from(length)).min(input.len())
 }
 
-// A buffer of coefficients for the most channels.
-fn no_coefficients() -> [f32; MOST_BUFFER]
-    ensures { length result ≡ most_buffer }
-{
-    [0.0f32; MOST_BUFFER]
-}
-
-// Room for any body.
-fn no_body() -> [u8; 21504]
-    ensures { length result ≡ body_room }
-{
-    [0u8; 21504]
-}
-
-// The buffers of a frame and its body, whose room is that of any frame.
-fn encode_bytes(sheet: &[u8], bytes: &[u8], n: usize) -> FrameAnswer
+// The buffers of a frame for the most channels, and room for any body.
+fn encode_bytes(sheet: &[u8], bytes: &[u8], n: usize) -> Result<BodyBits, Refusal>
     requires { (n ≤ most_buffer) × (length bytes.now ≡ 4 * n) }
     ensures { result ≡ encode_answer sheet.now (coefficients_in n bytes.now) n n n body_room }
 {
-    let mut coeffs = no_coefficients();
-    let mut exps = frame_rows::no_bytes();
-    let mut bap = frame_rows::no_bytes();
-    let mut codes = frame_rows::no_codes();
-    let mut body = no_body();
-    read_coefficients(bytes, &mut coeffs[0..n]);
+    let mut coeffs = [0.0f32; MOST_BUFFER];
+    let mut exps = [0u8; MOST_BUFFER];
+    let mut bap = [0u8; MOST_BUFFER];
+    let mut codes = [0u16; MOST_BUFFER];
+    let mut body = [0u8; 21504];
+    let coeffs = &mut coeffs[..n];
+    read_coefficients(bytes, coeffs);
     frame_encoder::encode_body(
         sheet,
-        &coeffs[0..n],
-        &mut exps[0..n],
-        &mut bap[0..n],
-        &mut codes[0..n],
+        coeffs,
+        &mut exps[..n],
+        &mut bap[..n],
+        &mut codes[..n],
         &mut body,
     )
 }
 
-// What the program answers to its whole input.
-pub fn encode_input(input: &[u8]) -> FrameAnswer
+// What the program answers to its whole input. `encode_body` takes the sheet's bytes and checks them once more: only an accepted sheet says
+// how many coefficients there must be.
+#[tactic(auto, unfolding(crate::specs::Program::program_answer, crate::specs::Input::sheet_in))]
+pub fn encode_input(input: &[u8]) -> Result<BodyBits, Refusal>
     ensures { result ≡ program_answer input.now }
 {
     let size = sheet_size(input);
-    let sheet = &input[0..size];
-    let number = sheet::check_sheet(sheet);
-    if number != ACCEPTED {
-        return frame::refused(number);
-    }
-    let n = sheet::buffer_length(sheet::channels(sheet::settings_of(sheet)));
+    let sheet = &input[..size];
     let bytes = &input[size..];
+    let track = Track::from_bytes(sheet)?;
+    let n = sheet::buffer_length(track.channels());
     if bytes.len() != 4 * n {
-        return frame::refused(WRONG_LENGTH);
+        return Err(Refusal::WrongLength);
     }
     encode_bytes(sheet, bytes, n)
 }

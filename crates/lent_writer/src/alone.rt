@@ -5,20 +5,20 @@ ghost use Rattle.bits.specs.Field.{field};
 ghost use Rattle.lent_writer.specs.Alone.{field_written};
 
 use crate::lent::write_field;
-use bits::refusal::{NO_ROOM, OUT_OF_RANGE};
-use bits::{Answer, accepted, refused};
+use bits::Refusal;
 
 // `BitWriter::write_u32(v, n)` at the first bit of an output, closed with zero bits to the byte; answers the number of bits.
-pub fn write_alone(out: &mut [u8], v: u32, n: u32) -> Answer
+#[tactic(auto, unfolding(crate::specs::Alone::field_written, bits::specs::Answer::output_of))]
+pub fn write_alone(out: &mut [u8], v: u32, n: u32) -> Result<u32, Refusal>
     ensures value { result ≡ field_written n (length out.old) }
     ensures out_after { out.new ≡ output_of result (field n v) out.old }
 {
     if n > 16 {
-        return refused(OUT_OF_RANGE);
+        return Err(Refusal::OutOfRange);
     }
-    if out.len() < ((n + 7) / 8) as usize {
-        return refused(NO_ROOM);
+    if out.len() < n.div_ceil(8) as usize {
+        return Err(Refusal::NoRoom);
     }
     write_field(out, v, n);
-    accepted(n)
+    Ok(n)
 }

@@ -1,6 +1,4 @@
 // The mantissa bits of a frame's six blocks.
-ghost use Rattle.std.specs.Prelude.{◌<◌, length};
-
 use crate::show;
 use std::io;
 
@@ -10,15 +8,9 @@ fn bap_at(i: usize, end: usize, below: u8, beyond: u8) -> u8 {
 }
 
 fn fill(bap: &mut [u8], end: usize, below: u8, beyond: u8) {
-    for i in 0..bap.len() {
-        bap[i] = bap_at(i, end, below, beyond);
+    for (i, bin) in bap.iter_mut().enumerate() {
+        *bin = bap_at(i, end, below, beyond);
     }
-}
-
-fn put(bap: &mut [u8], at: usize, value: u8)
-    requires { at < length bap.old }
-{
-    bap[at] = value;
 }
 
 // A buffer of so many baps, filled like that with one changed.
@@ -40,13 +32,15 @@ fn total(
         return Ok(());
     }
     fill(&mut bap, end, below, beyond);
-    put(&mut bap, at, value);
-    let bits = mantissas::mantissa_bits_total_ends(sheet, &bap[0..size]);
-    print!(rt;
-        "total {size} {end} {below} {beyond} {at} {value}: {}",
-        bits.refusal
-    )?;
-    show::counts(rt, bits.counts)?;
+    bap[at] = value;
+    print!(rt; "total {size} {end} {below} {beyond} {at} {value}:")?;
+    match mantissas::mantissa_bits_total_ends(sheet, &bap[0..size]) {
+        Ok(counts) => {
+            print!(rt; " 0")?;
+            show::each(rt, &counts)?;
+        }
+        Err(refusal) => print!(rt; " {refusal} 0 0 0 0 0 0")?,
+    }
     println!(rt; "")
 }
 

@@ -1,13 +1,15 @@
 // The codes of coefficients, which are given by their bits.
+use crate::show;
 use std::io;
 
 fn code(rt: &impl Print, pattern: u32, exponent: u32, bap: u32) -> io::Result<()> {
     let coefficient = shaping::coefficient_of(pattern);
-    let answer = quantiser::quantise_mantissa(coefficient, exponent, bap);
-    println!(rt;
-        "code {pattern} {exponent} {bap}: {} {}",
-        answer.refusal, answer.value
-    )
+    print!(rt; "code {pattern} {exponent} {bap}:")?;
+    show::answer(
+        rt,
+        quantiser::quantise_mantissa(coefficient, exponent, bap).map(u32::from),
+    )?;
+    println!(rt; "")
 }
 
 // Document 01, "Edges": -1, 31/32 and -1/32.
@@ -26,8 +28,8 @@ fn with_each_bap(rt: &impl Print, pattern: u32) -> io::Result<()> {
 }
 
 fn each_of(rt: &impl Print, patterns: &[u32]) -> io::Result<()> {
-    for pattern in patterns {
-        with_each_bap(rt, *pattern)?;
+    for &pattern in patterns {
+        with_each_bap(rt, pattern)?;
     }
     Ok(())
 }
@@ -131,7 +133,7 @@ pub(crate) fn exponents(rt: &impl Print) -> io::Result<()> {
     code(rt, 0x7fc00000, 25, 16)?;
     code(rt, 0, 25, 16)?;
     code(rt, 0, 24, 16)?;
-    code(rt, 0, 4294967295, 0)?;
-    code(rt, 0, 0, 4294967295)?;
+    code(rt, 0, u32::MAX, 0)?;
+    code(rt, 0, 0, u32::MAX)?;
     code(rt, 0, 0, 256)
 }

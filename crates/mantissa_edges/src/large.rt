@@ -15,7 +15,7 @@ fn bap_of(i: usize) -> u8
 fn code_of(bap: u8, i: usize) -> u16
     requires { (bap < 16) × (i < 1600) }
 {
-    (i * 37) as u16 & LARGEST[bap as usize]
+    (i * 37) as u16 & LARGEST[usize::from(bap)]
 }
 
 // The baps go round from 0 to 15.
@@ -38,9 +38,9 @@ fn write_and_read(
 ) -> io::Result<()> {
     print!(rt; "many {} {} {}:", bap.len(), codes.len(), out.len())?;
     show::answer(rt, mantissas::write_mantissa_stream(out, bap, codes))?;
-    show::sum_of_bytes(rt, out)?;
+    show::sums(rt, out)?;
     show::answer(rt, mantissas::read_mantissa_stream(out, bap, back))?;
-    show::sum_of_codes(rt, back)?;
+    show::sums(rt, back)?;
     println!(rt; "")
 }
 

@@ -4,13 +4,13 @@ use std::io;
 
 fn read_into(rt: &impl Print, codes: &mut [u16], input: &[u8], bap: &[u8]) -> io::Result<()> {
     print!(rt; "read")?;
-    show::bytes(rt, input)?;
+    show::each(rt, input)?;
     print!(rt; ",")?;
-    show::bytes(rt, bap)?;
+    show::each(rt, bap)?;
     print!(rt; ":")?;
     show::answer(rt, mantissas::read_mantissa_stream(input, bap, codes))?;
     print!(rt; ",")?;
-    show::codes(rt, codes)?;
+    show::each(rt, codes)?;
     println!(rt; "")
 }
 
@@ -25,10 +25,8 @@ fn read(rt: &impl Print, bap: &[u8], input: &[u8]) -> io::Result<()> {
 
 // Each value of a field that stands in the highest bits of a byte: `count` of them, `unit` apart.
 fn each_value(rt: &impl Print, bap: &[u8], count: u8, unit: u8) -> io::Result<()> {
-    let mut byte = 0u8;
     for i in 0..count {
-        read(rt, bap, &[byte])?;
-        byte = byte.wrapping_add(unit);
+        read(rt, bap, &[i.wrapping_mul(unit)])?;
     }
     Ok(())
 }

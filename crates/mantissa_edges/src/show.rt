@@ -1,59 +1,30 @@
 // How a case is shown: its numbers one behind the other.
-use bits::Answer;
+use bits::Refusal;
+use std::fmt::Display;
 use std::io;
 
-// The refusal's number and the value.
-pub(crate) fn answer(rt: &impl Print, a: Answer) -> io::Result<()> {
-    print!(rt; " {} {}", a.refusal, a.value)
+// The refusal's number and the value, of which the one that is not there is 0.
+pub(crate) fn answer(rt: &impl Print, answer: Result<u32, Refusal>) -> io::Result<()> {
+    match answer {
+        Ok(value) => print!(rt; " 0 {value}"),
+        Err(refusal) => print!(rt; " {refusal} 0"),
+    }
 }
 
-pub(crate) fn bytes(rt: &impl Print, bytes: &[u8]) -> io::Result<()> {
-    for byte in bytes {
-        print!(rt; " {byte}")?;
+pub(crate) fn each<T: Display>(rt: &impl Print, entries: &[T]) -> io::Result<()> {
+    for entry in entries {
+        print!(rt; " {entry}")?;
     }
     Ok(())
-}
-
-pub(crate) fn codes(rt: &impl Print, codes: &[u16]) -> io::Result<()> {
-    for code in codes {
-        print!(rt; " {code}")?;
-    }
-    Ok(())
-}
-
-fn plus_byte(sum: u32, b: u8) -> u32 {
-    sum.wrapping_add(b as u32)
-}
-
-fn plus_code(sum: u32, c: u16) -> u32 {
-    sum.wrapping_add(c as u32)
 }
 
 // The sum of the entries, and the sum of the sums up to each entry, modulo 2^32.
-pub(crate) fn sum_of_bytes(rt: &impl Print, bytes: &[u8]) -> io::Result<()> {
+pub(crate) fn sums<T: Copy + Into<u32>>(rt: &impl Print, entries: &[T]) -> io::Result<()> {
     let mut all = 0u32;
     let mut running = 0u32;
-    for byte in bytes {
-        all = plus_byte(all, *byte);
+    for &entry in entries {
+        all = all.wrapping_add(entry.into());
         running = running.wrapping_add(all);
     }
     print!(rt; " {all} {running}")
-}
-
-pub(crate) fn sum_of_codes(rt: &impl Print, codes: &[u16]) -> io::Result<()> {
-    let mut all = 0u32;
-    let mut running = 0u32;
-    for code in codes {
-        all = plus_code(all, *code);
-        running = running.wrapping_add(all);
-    }
-    print!(rt; " {all} {running}")
-}
-
-// The six counts of a frame's blocks.
-pub(crate) fn counts(rt: &impl Print, counts: [u32; 6]) -> io::Result<()> {
-    for count in &counts {
-        print!(rt; " {count}")?;
-    }
-    Ok(())
 }

@@ -4,20 +4,20 @@ ghost use Rattle.std.specs.Prelude.{◌<◌};
 use crate::show;
 use std::io;
 
-// The largest code of each bap; bap 16 is none.
+// The largest code of each bap; bap 16 is none. reconstruct_edges has the same table: each test program stands alone.
 pub const LARGEST: [u16; 17] = [
     0, 2, 4, 6, 10, 14, 31, 63, 127, 255, 511, 1023, 2047, 4095, 16383, 65535, 0,
 ];
 
 fn write(rt: &impl Print, out: &mut [u8], bap: &[u8], codes: &[u16]) -> io::Result<()> {
     print!(rt; "write")?;
-    show::bytes(rt, bap)?;
+    show::each(rt, bap)?;
     print!(rt; ",")?;
-    show::codes(rt, codes)?;
+    show::each(rt, codes)?;
     print!(rt; ":")?;
     show::answer(rt, mantissas::write_mantissa_stream(out, bap, codes))?;
     print!(rt; ",")?;
-    show::bytes(rt, out)?;
+    show::each(rt, out)?;
     println!(rt; "")
 }
 
@@ -44,7 +44,7 @@ fn alone(rt: &impl Print, bap: u8, code: u16) -> io::Result<()> {
 fn of_bap(rt: &impl Print, bap: u8) -> io::Result<()>
     requires { bap < 17 }
 {
-    let largest = LARGEST[bap as usize];
+    let largest = LARGEST[usize::from(bap)];
     alone(rt, bap, 0)?;
     alone(rt, bap, largest / 2)?;
     alone(rt, bap, largest)?;

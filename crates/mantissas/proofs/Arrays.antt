@@ -9,7 +9,7 @@ use lib.ListN.{length, get_or, set, replicate}
 use lib.Seq.{get_or-set_same, get_or-set_other, set-get_or}
 use borrow.Author.Tests.{eqb-true, eqb-false}
 use Rattle.bits.specs.Tests.{by_bool}
-use Rattle.mantissas.specs.Inner.{Started, LevelTable}
+use Rattle.mantissas.specs.Inner.{LevelTable}
 use Rattle.mantissas.specs.State.{update}
 use Rattle.mantissas.specs.StateLaws.{at}
 use Rattle.mantissas.specs.Stream.{left}
@@ -34,18 +34,6 @@ pub at-zeros : (n : ℕ) → at (replicate n 0) ≡ λ k. 0
 unfolding at
 at-zeros n = fun_ext (λ k. zeros-at n k)
 
-pub started-zeros : Started (replicate 16 0)
-started-zeros = record { less = λ k h. rw (zeros-at 16 k) (row k h).size-least }
-
-pub started-set : {st : List ℕ} {b x : ℕ} → Started st → b < length st → x < size b → Started (set st b x)
-started-set {st} {b} {x} s h l =
-    record {
-      less = λ k hk.
-          by_bool (eqb k b)
-          (λ e. let q = eqb-true k b e in rw (q, get_or-set_same st b x 0 h) l)
-          (λ e. rw (get_or-set_other st b k x 0 (eqb-false k b e)) (s.less k hk));
-    }
-
 -- one less to come
 pub less_one : (b n : ℕ) → 1 ≤ n → left b n ≡ n - 1
 unfolding left
@@ -67,10 +55,6 @@ zero-size = refl
 
 -- the lists that are laid out: group sizes, levels and widths by bap
 module _ (l : List ℕ) where
-  pub sizes-long : l ≡ group_sizes → length l ≡ 16
-  unfolding group_sizes
-  sizes-long e = rw e
-
   pub size-listed : (b : ℕ) → l ≡ group_sizes → get_or l b 0 ≡ size b
   unfolding size entry
   size-listed b e = rw e
@@ -82,10 +66,6 @@ module _ (l : List ℕ) where
   pub level-listed : (b : ℕ) → LevelTable l → b < 16 → get_or l b 0 ≡ levels b
   unfolding entry
   level-listed b table h = table.1 b h
-
-  pub widths-long : l ≡ quantization_bits → length l ≡ 16
-  unfolding quantization_bits
-  widths-long e = rw e
 
   pub width-listed : (b : ℕ) → l ≡ quantization_bits → get_or l b 0 ≡ width b
   unfolding width entry

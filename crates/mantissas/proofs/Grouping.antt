@@ -1,5 +1,5 @@
 -- The value of a group, gathered code by code.
-use mathlib.Core.Path.{◌≡◌, sym, ◌∙◌}
+use mathlib.Core.Path.{◌≡◌, refl, sym, ◌∙◌}
 use mathlib.Core.List.{List, [], ◌∷◌}
 use Prim.Native.Nat.{ℕ, zero, suc, ◌+◌, ◌-◌, ◌*◌, ◌^◌, ◌≤◌, ◌<◌}
 use native.Mathlib.Nat.{not-suc-le-zero, pow-zero, pow-succ', pow-le-pow_right, mul-le-mul_left, lt_of_lt_of_le}
@@ -25,10 +25,13 @@ pub group-start : {bs cs : List ℕ} {b i n : ℕ} → b ≡ get_or bs i 0 → n
 unfolding group_at group_code
 group-start {bs} {cs} {b} {i} {n} eb en = record { eq = rw (en, eb) (omega arith) }
 
-pad-one : (m n v : ℕ) → 1 ≤ n → v * m ^ n + pack m (padded n []) ≡ v * m * m ^ (n - 1) + pack m (padded (n - 1) [])
+pad-room : (v m n : ℕ) → 1 ≤ m → 1 ≤ n → v * m ≤ v * m ^ n
+pad-room v m n h l = rw pow-one at (mul-le-mul_left v (pow-le-pow_right h l))
+
+pack-none : (m n : ℕ) → pack m (padded n []) ≡ 0
 unfolding pack padded
-pad-one m zero v h = absurd (not-suc-le-zero h)
-pad-one m (suc n) v h = let e : suc n - 1 ≡ n = omega arith in rw (e, pow-succ' m n) (omega arith)
+pack-none m zero = refl
+pack-none m (suc n) = omega (arith, pack-none m n)
 
 take-one : (m n v c : ℕ) (l : List ℕ) → 1 ≤ n → v * m ^ n + pack m (padded n (c ∷ l)) ≡ (v * m + c) * m ^ (n - 1) + pack m (padded (n - 1) l)
 unfolding pack padded
@@ -37,14 +40,12 @@ take-one m (suc n) v c l h =
     let e : suc n - 1 ≡ n = omega arith in
     rw (e, pow-succ' m n, length-padded n l) (omega arith)
 
--- past the end: a code is missing
-pub group-pad : {bs cs : List ℕ} {b i j n v m missing : ℕ} → Grouping bs cs b i j n v → length bs ≤ j → 1 ≤ n → m ≡ levels b → missing ≡ 0
-    → Grouping bs cs b i j (n - 1) (v * m + missing)
+-- past the end: the codes that are to come are missing
+pub group-missing : {bs cs : List ℕ} {b i j n v : ℕ} → Grouping bs cs b i j n v → length bs ≤ j → v * levels b ^ n ≡ group_at i bs cs
 unfolding of_bap
-group-pad {bs} {cs} {b} {i} {j} {n} {v} {m} {missing} g h k e none =
-    let p : v * m + missing ≡ v * levels b = rw (none, e) (omega arith) in
+group-missing {bs} {cs} {b} {i} {j} {n} {v} g h =
     let z = rw (drop_of_length-le bs h) at g.eq in
-    record { eq = rw (p, drop_of_length-le bs h) (sym (pad-one (levels b) n v k) ∙ z) }
+    omega (arith, z, pack-none (levels b) n)
 
 -- the next code of the bap
 pub group-take : {bs cs : List ℕ} {b i j n v m : ℕ} → Grouping bs cs b i j n v → j < length bs → j < length cs → get_or bs j 0 ≡ b → 1 ≤ n → m ≡ levels b
@@ -76,11 +77,7 @@ group-small {bs} {cs} i h hb =
 
 pub group-room : {bs cs : List ℕ} {b i j n v m : ℕ} → Grouping bs cs b i j n v → Coded bs cs → b ≡ get_or bs i 0 → b < 16 → 1 ≤ n → m ≡ levels b → v * m < 65536
 group-room {bs} {cs} {b} {i} {j} {n} {v} {m} g h eb hb k e =
-    let r = row b hb in
-    let p : levels b ^ 1 ≤ levels b ^ n = pow-le-pow_right r.levels-least k in
-    let q : v * levels b ≤ v * levels b ^ n = mul-le-mul_left v (rw (pow-one (levels b)) at p) in
-    let s = group-small i h (rw eb at hb) in
-    rw e (omega (arith, g.eq))
+    rw e (omega (arith, g.eq, pad-room v (levels b) n (row b hb).levels-least k, group-small i h (rw eb at hb)))
 
 -- a code with a field of its own is the field's value
 pub group-alone : (bs cs : List ℕ) (i : ℕ) → i < length bs → i < length cs → size (get_or bs i 0) ≡ 1 → get_or cs i 0 ≡ group_at i bs cs

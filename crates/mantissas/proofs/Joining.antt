@@ -6,7 +6,7 @@ use Prim.Native.Nat.{ℕ, zero, suc, ◌+◌, ◌-◌, ◌≤◌, ◌<◌}
 use native.Mathlib.Omega.{arith}
 use native.Mathlib.Decide.{dec_le}
 use lib.Dec.{ltb}
-use lib.ListN.{length, take, drop, length-take, length-drop}
+use lib.ListN.{take, drop}
 use Rattle.bits.specs.Parts.{joined}
 use Rattle.bits.specs.PartsLaws.{joined-more}
 use Rattle.bits.specs.Tests.{by_bool}
@@ -17,11 +17,10 @@ use Rattle.mantissas.specs.Inner.{Below, nil, cons}
 use Rattle.mantissas.specs.Stream.{baps_fit, bit_count}
 use Rattle.mantissas.specs.Tally.{tally_of, tally_bits}
 use Rattle.mantissas.specs.TallyLaws.{tally-append, tally-bits}
-use Rattle.sheet.specs.Layout.{buffer_length}
 use Rattle.sheet.specs.Inner.{PartStart}
 use Rattle.sheet.specs.LegalSettings.{LegalSettings}
 use Rattle.sheet.specs.Settings.{channels, end_at}
-use Rattle.sheet.proofs.SettingsLaws.{channels-bounds, end-bounds}
+use Rattle.sheet.proofs.SettingsLaws.{channels-bounds}
 use Rattle.sheet.specs.declared.settings.Settings.{Settings}
 
 -- ---- the baps of a part are among those of the whole
@@ -48,17 +47,6 @@ unfolding part_baps
 part-taken {block} {c} {n} {a} {end} settings bap many e p =
     let k : a + end - a ≡ end_at settings c = omega (arith, e) in
     rw (k, p.is, many)
-
-module _ {block c n a end : ℕ} {settings : Settings} (bap : List ℕ) (under : LegalSettings settings) (many : n ≡ channels settings) (e : end ≡ end_at settings c)
-    (p : PartStart n block c a) (h : c < n) where
-  there : c < channels settings
-  there = omega (arith, h, many)
-
-  pub part-fits : length bap ≡ buffer_length (channels settings) → a + end ≤ length bap
-  part-fits l = omega (arith, p.within, end-bounds under c there, l, e, ap buffer_length many)
-
-  pub part_length : length (take (a + end - a) (drop a bap)) ≤ 256
-  part_length = let m = end-bounds under c there in rw (length-take, length-drop) (omega (arith, e))
 
 -- the baps of a channel's part are among those of its block
 pub part-below : {m : ℕ} (settings : Settings) (bap : List ℕ) (block c : ℕ) → Below m (block_baps settings bap block) → c < channels settings → Below m (part_baps settings bap block c)

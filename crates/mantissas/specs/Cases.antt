@@ -3,7 +3,7 @@ use Rattle.std.specs.Prelude.{◌≡◌, refl, true, false, List, [], ◌∷◌,
 use Rattle.std.proofs.Common.{div-one, arith}
 use Rattle.std.proofs.Math.Nat.{pow-zero}
 use Rattle.bits.specs.Reading.{ok, fault}
-use Rattle.bits.specs.Refusal as refusal
+use Rattle.bits.specs.declared.refusal.Refusal.TheVariants as refusal
 use Rattle.mantissas.specs.Digits.{pack, digits, padded}
 use Rattle.mantissas.specs.Ranges.{size, levels, group_sizes}
 use Rattle.mantissas.specs.Stream.{group_code, stream, read_stream}
@@ -61,11 +61,11 @@ unfolding read_stream
 three-around-one-read = refl
 
 -- 27 is no group of bap 1
-pub twenty-seven : read_stream (1 ∷ []) (true ∷ true ∷ false ∷ true ∷ true ∷ []) ≡ fault refusal.no_code
+pub twenty-seven : read_stream (1 ∷ []) (true ∷ true ∷ false ∷ true ∷ true ∷ []) ≡ fault refusal.NoCode
 unfolding read_stream
 twenty-seven = refl
 
 -- a field that runs past the input, met before the value 7 of bap 3 behind it
-pub past_first : read_stream (6 ∷ 3 ∷ []) (true ∷ true ∷ true ∷ []) ≡ fault refusal.past_input
+pub past_first : read_stream (6 ∷ 3 ∷ []) (true ∷ true ∷ true ∷ []) ≡ fault refusal.PastInput
 unfolding read_stream
 past_first = refl

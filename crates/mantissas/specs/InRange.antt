@@ -5,7 +5,7 @@ use Rattle.std.proofs.Common.{arith, eqb-true, ltb-true}
 use Rattle.bits.specs.Reading.{Outcome, ok, fault, read_bits}
 use Rattle.bits.specs.Readers.{fault-not-ok}
 use Rattle.bits.specs.ReadingLaws.{then_ok}
-use Rattle.bits.specs.Refusal as refusal
+use Rattle.bits.specs.declared.refusal.Refusal.TheVariants as refusal
 use Rattle.bits.specs.Tests.{by_bool}
 use Rattle.mantissas.specs.Digits.{digits}
 use Rattle.mantissas.specs.Inner.{Below, nil, cons, Coded, empty, bin}
@@ -25,7 +25,7 @@ unfolding judged
 judged-lt b v rest x t e =
     by_bool (ltb v (levels b ^ size b))
     (λ q. let z : v ≡ x = ok-value v x rest t (rw q at e) in rw (← z) (ltb-true v (levels b ^ size b) q))
-    (λ q. let f : ◌≡◌ {A = Outcome ℕ} (fault refusal.no_code) (ok x t) = rw q at e in absurd (fault-not-ok f))
+    (λ q. let f : ◌≡◌ {A = Outcome ℕ} (fault refusal.NoCode) (ok x t) = rw q at e in absurd (fault-not-ok f))
 
 -- the codes at hand: at least one, each in range
 pub data Handful (m : ℕ) : List ℕ → Type 0 where

@@ -1,11 +1,10 @@
--- Contracts of the inner functions: baps and codes in their ranges, the value of the group that begins at a bin, what reading a group's
--- field gives, and what a reader's state holds.
-use Rattle.std.specs.Prelude.{◌≡◌, Bool, List, [], ◌∷◌, ℕ, ◌+◌, ◌≤◌, ◌<◌, length, drop, get_or}
+-- Contracts of the inner functions: baps and codes in their ranges, the value of the group that begins at a bin, and what reading a group's
+-- field gives.
+use Rattle.std.specs.Prelude.{◌≡◌, Bool, List, [], ◌∷◌, ℕ, ◌+◌, ◌≤◌, ◌<◌, length, drop, get_or, Result, MatchResult}
 use Rattle.bits.specs.Read.{from}
 use Rattle.bits.specs.Reading.{ok, fault}
-use Rattle.bits.specs.Refusal as refusal
-use Rattle.bits.specs.declared.answer.Answer.{Answer}
-use Rattle.mantissas.specs.Ranges.{size, levels, width}
+use Rattle.bits.specs.declared.refusal.Refusal.{Refusal}
+use Rattle.mantissas.specs.Ranges.{levels, width}
 use Rattle.mantissas.specs.Stream.{of_bap, group_code, read_group}
 use Rattle.tables.specs.Entry.{entry}
 
@@ -27,13 +26,11 @@ pub data Coded : List ℕ → List ℕ → Type 0 where
 unfoldable pub group_at : ℕ → List ℕ → List ℕ → ℕ
 group_at i bs cs = group_code (get_or bs i 0) (of_bap (get_or bs i 0) (drop i bs) (drop i cs))
 
--- r is what reading a field of bap b at pos gives: the group's value, or the fault's number
-pub record GroupRead (b : ℕ) (bits : List Bool) (pos : ℕ) (r : Answer) : Type 0 where
-  pub good : r.refusal ≡ refusal.accepted → read_group b (from pos bits) ≡ ok r.value (from (pos + width b) bits)
-  pub bad : (r.refusal ≡ refusal.accepted → ⊥) → read_group b (from pos bits) ≡ fault r.refusal
-  pub there : r.refusal ≡ refusal.accepted → pos + width b ≤ length bits
-  pub small : r.value < 65536
+-- v is the group's value in the field of bap b at pos
+pub record GroupAt (b : ℕ) (bits : List Bool) (pos v : ℕ) : Type 0 where
+  pub is : read_group b (from pos bits) ≡ ok v (from (pos + width b) bits)
+  pub there : pos + width b ≤ length bits
 
--- less than a group is still to come of each bap
-pub record Started (st : List ℕ) : Type 0 where
-  pub less : (k : ℕ) → k < 16 → get_or st k 0 < size k
+-- that is what reading the field gives, or it gives the reader's fault
+abbrev pub GroupRead : ℕ → List Bool → ℕ → Result ℕ Refusal → Type 0
+GroupRead b bits pos result = MatchResult result (λ v. GroupAt b bits pos v) (λ k. read_group b (from pos bits) ≡ fault k)

@@ -8,6 +8,7 @@ pub mod Blocks
 pub mod Formula
 -- Then what follows from it: what the inner functions take and give, the tally that the code counts with, the laws, and the cases.
 pub mod Inner
+pub mod Pending
 pub mod Tally
 pub mod RangesLaws
 pub mod DigitsLaws

@@ -31,9 +31,9 @@ row b h =
     }
 
 -- three codes of bap 1 share a field, three of bap 2 and two of bap 4; a code of any other bap has one of its own
-pub size-by : (b : ℕ) → b < 16 → size b ≡ cond (eqb b 1) 3 (cond (eqb b 2) 3 (cond (eqb b 4) 2 1))
+pub size_cases : (b : ℕ) → b < 16 → size b ≡ cond (eqb b 1) 3 (cond (eqb b 2) 3 (cond (eqb b 4) 2 1))
 unfolding size group_sizes entry
-size-by b h = eqb→eq _ _ (at-index 16 (λ (k : ℕ). eqb (size k) (cond (eqb k 1) 3 (cond (eqb k 2) 3 (cond (eqb k 4) 2 1)))) tt b h)
+size_cases b h = eqb→eq _ _ (at-index 16 (λ (k : ℕ). eqb (size k) (cond (eqb k 1) 3 (cond (eqb k 2) 3 (cond (eqb k 4) 2 1)))) tt b h)
 
 -- from bap 6 on every value of the field is a code
 pub levels-power : (b : ℕ) → 6 ≤ b → b < 16 → levels b ≡ 2 ^ width b

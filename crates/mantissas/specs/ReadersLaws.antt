@@ -4,15 +4,15 @@ use mathlib.Core.List.{List, [], ◌∷◌, head_d, tail}
 use Rattle.std.proofs.Common.{arith}
 use Rattle.bits.specs.Readers.{Reader, reader-ok, reader-fault, reader-then, reader-bits}
 use Rattle.bits.specs.Reading.{ok, fault}
-use Rattle.bits.specs.Refusal as refusal
+use Rattle.bits.specs.declared.refusal.Refusal.TheVariants as refusal
 use Rattle.mantissas.specs.Digits.{digits}
 use Rattle.mantissas.specs.Ranges.{size, levels, width}
 use Rattle.mantissas.specs.State.{update}
 use Rattle.mantissas.specs.Stream.{judged, read_group, members, read_from, read_stream}
 
-reader-test : (t : Bool) (v : ℕ) → Reader (λ rest. cond t (ok v rest) (fault refusal.no_code))
+reader-test : (t : Bool) (v : ℕ) → Reader (λ rest. cond t (ok v rest) (fault refusal.NoCode))
 reader-test true v = reader-ok v
-reader-test false v = reader-fault refusal.no_code (omega arith) (omega arith)
+reader-test false v = reader-fault refusal.NoCode (omega arith) (omega arith)
 
 pub reader-value : (b : ℕ) → Reader (read_group b)
 unfolding read_group judged

@@ -4,7 +4,7 @@ use Rattle.std.specs.Prelude.{Bool, true, false, ◌&&◌, cond, ℕ, zero, suc,
 use mathlib.Core.List.{List, [], ◌∷◌, ◌++◌, head_d, tail}
 use Rattle.bits.specs.Field.{field, odd, read_field, take_field, bit_val}
 use Rattle.bits.specs.Reading.{Outcome, ok, fault, then, or_past, read_bits}
-use Rattle.bits.specs.Refusal as refusal
+use Rattle.bits.specs.declared.refusal.Refusal.TheVariants as refusal
 use Rattle.mantissas.specs.Digits.{pack, digits, padded}
 use Rattle.mantissas.specs.Ranges.{size, levels, width, group_sizes}
 use Rattle.mantissas.specs.State.{update}
@@ -78,7 +78,7 @@ bit_count bs = count_from (λ k. 0) bs
 
 -- a field's value is judged whole (document 01, "mantissa value no code has"): 27..31, 125..127, 121..127, 7 and 15 are no group's
 unfoldable pub judged : ℕ → ℕ → List Bool → Outcome ℕ
-judged b v rest = cond (ltb v (levels b ^ size b)) (ok v rest) (fault refusal.no_code)
+judged b v rest = cond (ltb v (levels b ^ size b)) (ok v rest) (fault refusal.NoCode)
 
 unfoldable pub read_group : ℕ → List Bool → Outcome ℕ
 read_group b bits = then (read_bits (width b) bits) (judged b)

@@ -9,14 +9,14 @@ ghost use Rattle.mantissas.specs.Stream.{coded, baps_fit};
 const MOST_ENTRIES: usize = 1536;
 
 // How many codes share a field (A/52 7.3.5).
+#[tactic(auto, using(std::proofs::lemmas::Bool::Decides::nat_tests, crate::specs::RangesLaws::size_cases, crate::specs::RangesLaws::row))]
 pub fn size(b: u8) -> u8
     requires { b < 16 }
     ensures value { result ≡ size b }
     ensures lower_bound { (1 ≤ result) × (result ≤ 3) }
 {
     match b {
-        1 => 3,
-        2 => 3,
+        1 | 2 => 3,
         4 => 2,
         _ => 1,
     }
@@ -26,16 +26,11 @@ pub fn size(b: u8) -> u8
 pub fn group_sizes() -> [u8; 16]
     ensures { result ≡ group_sizes }
 {
-    let mut table = [0u8; 16];
-    let mut b: u8 = 0;
-    while b < 16 {
-        table[b as usize] = size(b);
-        b += 1;
-    }
-    table
+    std::array::from_fn(|b| size(b as u8))
 }
 
 // How many values a code has (Table 7.18, and the one code 0 of bap 0): from bap 6 on as many as its field has.
+#[tactic(auto, unfolding(crate::specs::Ranges::levels, tables::specs::Quantizer::level_count, tables::specs::Quantizer::level_counts, tables::specs::Entry::entry))]
 pub fn levels(b: u8) -> u32
     requires { b < 16 }
     ensures value { result ≡ levels b }
@@ -56,13 +51,7 @@ pub fn levels(b: u8) -> u32
 pub fn level_table() -> [u32; 16]
     ensures { LevelTable result }
 {
-    let mut table = [0u32; 16];
-    let mut b: u8 = 0;
-    while b < 16 {
-        table[b as usize] = levels(b);
-        b += 1;
-    }
-    table
+    std::array::from_fn(|b| levels(b as u8))
 }
 
 // How many bits the field has.
@@ -71,7 +60,7 @@ pub fn width(b: u8) -> u32
     ensures value { result ≡ width b }
     ensures upper_bound { result ≤ 16 }
 {
-    tables::quantization_bits(b) as u32
+    u32::from(tables::quantization_bits()[usize::from(b)])
 }
 
 // How many values n codes of a group have together.
@@ -80,38 +69,24 @@ pub fn values(b: u8, n: u8) -> u32
     ensures value { result ≡ levels b ^ n }
     ensures lower_bound { (1 ≤ result) × (result ≤ 65536) }
 {
-    if n == 0 {
-        return 1;
-    }
-    let m = levels(b);
-    if n == 1 {
-        return m;
-    }
-    if n == 2 {
-        return m * m;
-    }
-    m * m * m
+    levels(b).pow(u32::from(n))
 }
 
 // Whether two slices have one length, at most 1,536.
+#[tactic(auto, unfolding(crate::specs::Calls::one_length))]
 pub fn one_length(m: usize, n: usize) -> bool
     ensures { result ≡ one_length m n }
 {
-    if m != n {
-        return false;
-    }
-    m <= MOST_ENTRIES
+    m == n && m <= MOST_ENTRIES
 }
 
-// Whether every bap is at most 15. None ends the loop, so that many can be tested at once.
+// Whether every bap is at most 15. No `all`, whose loop ends at the first that is not: with no such branch many are tested at once.
 pub fn check_baps(bap: &[u8]) -> bool
     ensures { result ≡ baps_fit bap.now }
 {
     let mut all = true;
-    let mut i = 0;
-    while i < bap.len() {
-        all = all & (bap[i] < 16);
-        i += 1;
+    for &b in bap {
+        all &= b < 16;
     }
     all
 }
@@ -122,16 +97,5 @@ pub fn check_codes(bap: &[u8], codes: &[u16]) -> bool
     ensures { result ≡ coded bap.now codes.now }
 {
     let levels = level_table();
-    let mut i = 0;
-    while i < bap.len() {
-        let b = bap[i];
-        if b >= 16 {
-            return false;
-        }
-        if codes[i] as u32 >= levels[b as usize] {
-            return false;
-        }
-        i += 1;
-    }
-    true
+    bap.iter().zip(codes).all(|(&b, &code)| b < 16 && u32::from(code) < levels[usize::from(b)])
 }

@@ -34,15 +34,14 @@ pub fn weigh(bap: &[u8], tally: u64) -> u64
 {
     let weights = WEIGHTS;
     let mut sum = tally;
-    let mut i = 0;
-    while i < bap.len() {
-        sum += weights[bap[i] as usize];
-        i += 1;
+    for &b in bap {
+        sum += weights[usize::from(b)];
     }
     sum
 }
 
 // The bits that a tally stands for: a begun group counts whole.
+#[tactic(auto, unfolding(crate::specs::Tally::tally_bits))]
 pub fn bits_of(tally: u64) -> u32
     ensures { result ≡ tally_bits tally }
 {
@@ -50,7 +49,7 @@ pub fn bits_of(tally: u64) -> u32
     let ones = tally / 65536 % 2048;
     let twos = tally / 134217728 % 2048;
     let fours = tally / 274877906944;
-    (alone + 5 * ((ones + 2) / 3) + 7 * ((twos + 2) / 3) + 7 * ((fours + 1) / 2)) as u32
+    (alone + 5 * ones.div_ceil(3) + 7 * twos.div_ceil(3) + 7 * fours.div_ceil(2)) as u32
 }
 
 // The length of the stream of any codes of these baps.

@@ -7,7 +7,7 @@ pub mod count;
 pub mod reader;
 pub mod stream;
 
-pub use blocks::{MantissaBits, count_block, mantissa_bits_total_ends};
+pub use blocks::{count_block, mantissa_bits_total_ends};
 pub use count::count_mantissas;
 pub use reader::{get_mantissas, read_mantissa_stream};
 pub use stream::{put_mantissas, write_mantissa_stream};

@@ -1,5 +1,5 @@
 // The writer of a mantissa stream (the Rust's `write_mantissa_stream`).
-ghost use Rattle.std.specs.Prelude.{◌≡◌, ◌<◌, length, get_or};
+ghost use Rattle.std.specs.Prelude.{◌≡◌, ◌*◌, ◌^◌, ◌≤◌, ◌<◌, length, get_or};
 ghost use Rattle.bits.specs.Answer.{output_of};
 ghost use Rattle.bits.specs.Write.{Ready, Put};
 ghost use Rattle.mantissas.specs.Calls.{write_answer};
@@ -9,13 +9,9 @@ ghost use Rattle.mantissas.specs.Stream.{stream};
 
 use crate::code::{check_codes, group_sizes, level_table, one_length};
 use crate::count::count_mantissas;
-use bits::refusal::{BAD_CODE, NO_ROOM, WRONG_LENGTH};
-use bits::{Answer, Writer, accepted, refused};
+use bits::{Refusal, Writer};
 
-// Document 01, "Mantissas": missing members are 0.
-const MISSING: u32 = 0;
-
-// The value of the field that begins at bin i, which n codes of m levels share: its code and those of the next bins of its bap, 0 for each that is missing.
+// The value of the field that begins at bin i, which n codes of m levels share: its code and those of the next bins of its bap, 0 for each that is missing (document 01, "Mantissas").
 // The next group of the bap begins behind the last bin looked at, so all scans together pass a bin once for each grouped bap.
 fn group_at(bap: &[u8], codes: &[u16], i: usize, n: u8, m: u32) -> u32
     requires coded { Coded bap.now codes.now }
@@ -23,32 +19,28 @@ fn group_at(bap: &[u8], codes: &[u16], i: usize, n: u8, m: u32) -> u32
     ensures { result ≡ group_at i bap.now codes.now }
 {
     let b = bap[i];
-    let mut n = n;
-    let mut j = i;
+    let mut missing = n;
     let mut v: u32 = 0;
-    while n > 0 {
-        if j >= bap.len() {
-            v = v * m + MISSING;
-            n -= 1;
-        } else if bap[j] == b {
-            v = v * m + codes[j] as u32;
-            n -= 1;
-            j += 1;
-        } else {
-            j += 1;
+    for j in i..bap.len() {
+        if missing == 0 {
+            return v;
+        }
+        if bap[j] == b {
+            v = v * m + u32::from(codes[j]);
+            missing -= 1;
         }
     }
-    v
+    v * m.pow(u32::from(missing))
 }
 
-// The same; a code that has a field of its own is its value.
+// The same; a code that has a field of its own is its value. Both take n and m, which are looked up once for a field.
 fn value_at(bap: &[u8], codes: &[u16], i: usize, n: u8, m: u32) -> u32
     requires coded { Coded bap.now codes.now }
     requires i_in_bounds { (i < length bap.now) × (n ≡ size (get_or bap.now i 0)) × (m ≡ levels (get_or bap.now i 0)) }
     ensures { result ≡ group_at i bap.now codes.now }
 {
     if n == 1 {
-        return codes[i] as u32;
+        return u32::from(codes[i]);
     }
     group_at(bap, codes, i, n, m)
 }
@@ -61,48 +53,40 @@ pub fn put_mantissas(out: &mut [u8], w: Writer, bap: &[u8], codes: &[u16]) -> Wr
 {
     let sizes = group_sizes();
     let levels = level_table();
-    let widths = tables::quantization_bits_table();
+    let widths = tables::quantization_bits();
     let mut w = w;
     let mut left = [0u8; 16];
-    let mut i = 0;
-    while i < bap.len() {
-        let b = bap[i];
-        let k = b as usize;
-        let l = left[k];
-        if l == 0 {
-            if b == 0 {
-                i += 1;
-            } else {
-                let n = sizes[k];
-                let v = value_at(bap, codes, i, n, levels[k]);
-                w = bits::put(out, w, v, widths[k] as u32);
-                left[k] = n - 1;
-                i += 1;
-            }
-        } else {
-            left[k] = l - 1;
-            i += 1;
+    for (i, &b) in bap.iter().enumerate() {
+        let k = usize::from(b);
+        if left[k] > 0 {
+            left[k] -= 1;
+        } else if b > 0 {
+            let n = sizes[k];
+            let v = value_at(bap, codes, i, n, levels[k]);
+            w = bits::put(out, w, v, u32::from(widths[k]));
+            left[k] = n - 1;
         }
     }
     w
 }
 
 // The stream of the codes from the first bit of the output on, closed with zero bits to the byte; answers the number of its bits.
-pub fn write_mantissa_stream(out: &mut [u8], bap: &[u8], codes: &[u16]) -> Answer
+#[tactic(auto, unfolding(bits::specs::Answer::output_of))]
+pub fn write_mantissa_stream(out: &mut [u8], bap: &[u8], codes: &[u16]) -> Result<u32, Refusal>
     ensures value { result ≡ write_answer (length out.old) bap.now codes.now }
     ensures out_after { out.new ≡ output_of result (stream bap.now codes.now) out.old }
 {
     if !one_length(bap.len(), codes.len()) {
-        return refused(WRONG_LENGTH);
+        return Err(Refusal::WrongLength);
     }
     if !check_codes(bap, codes) {
-        return refused(BAD_CODE);
+        return Err(Refusal::BadCode);
     }
     let n = count_mantissas(bap);
-    if out.len() < ((n + 7) / 8) as usize {
-        return refused(NO_ROOM);
+    if out.len() < n.div_ceil(8) as usize {
+        return Err(Refusal::NoRoom);
     }
     let w = put_mantissas(out, bits::start(), bap, codes);
     bits::finish(out, w);
-    accepted(n)
+    Ok(n)
 }

@@ -1,7 +1,8 @@
 -- A/52 7.2.2.6: what the delta segments add to the mask of a band.
--- The segments start at band 0; each lies offst bands behind the end of the one before it, is len bands long and adds delta to each. The sheet's
+-- The segments start at band 0; each lies offst bands behind the end of the one before it, is len bands long and adds delta to each. A segment's
 -- offst, len and ba are the standard's deltoffst, deltlen and deltba. A band past 49 has a delta too, but no bin asks for it.
-use Rattle.std.specs.Prelude.{ℕ, zero, suc, ◌+◌, cond, ◌&&◌, List, leb, ltb, ℤ, pos, ◌+ℤ◌, ◌-ℤ◌, ◌*ℤ◌, get_or}
+use Rattle.std.specs.Prelude.{ℕ, ◌+◌, cond, ◌&&◌, List, [], ◌∷◌, leb, ltb, ℤ, pos, ◌+ℤ◌, ◌-ℤ◌, ◌*ℤ◌}
+use Rattle.elements.specs.declared.segment.Segment.{Segment}
 
 -- delta = (ba - 3) << 7 where ba >= 4, else (ba - 4) << 7
 unfoldable pub delta : ℕ → ℤ
@@ -11,13 +12,11 @@ delta ba = cond (leb 4 ba) ((pos ba -ℤ pos 3) *ℤ pos 128) ((pos ba -ℤ pos 
 unfoldable pub segment_delta : ℕ → ℕ → ℕ → ℕ → ℤ
 segment_delta first len ba band = cond (leb first band && ltb band (first + len)) (delta ba) (pos 0)
 
--- what n segments from segment i on add to mask[band], where the one before segment i ended before band `at`
-unfoldable pub deltas_from : List ℕ → List ℕ → List ℕ → ℕ → ℕ → ℕ → ℕ → ℤ
-deltas_from offst len ba band zero i at = pos 0
-deltas_from offst len ba band (suc n) i at =
-    segment_delta (at + get_or offst i 0) (get_or len i 0) (get_or ba i 0) band
-    +ℤ deltas_from offst len ba band n (suc i) (at + get_or offst i 0 + get_or len i 0)
+-- what segments add to mask[band], where the one before the first of them ended before band `at`
+unfoldable pub deltas_from : List Segment → ℕ → ℕ → ℤ
+deltas_from [] at band = pos 0
+deltas_from (s ∷ rest) at band = segment_delta (at + s.offst) s.len s.ba band +ℤ deltas_from rest (at + s.offst + s.len) band
 
--- what all nseg segments add to it
-unfoldable pub deltas : List ℕ → List ℕ → List ℕ → ℕ → ℕ → ℤ
-deltas offst len ba nseg band = deltas_from offst len ba band nseg 0 0
+-- what all segments add to it
+unfoldable pub deltas : List Segment → ℕ → ℤ
+deltas segments band = deltas_from segments 0 band

@@ -2,9 +2,7 @@
 #![tactic(auto)]
 
 pub mod delta;
-pub mod number;
 pub mod threshold;
 
 pub use delta::band_deltas;
-pub use number::less;
 pub use threshold::masking_curve;

@@ -6,7 +6,7 @@ use Rattle.std.specs.Float.{nan, binary32}
 use Rattle.std.specs.Float.Ieee.{fits, mul, of_int}
 use Rattle.std.specs.Float.Ieee.Positive.{num, den}
 use Rattle.std.specs.Float.Ieee.Scale.{finite}
-use Rattle.bits.specs.Refusal as refusal
+use Rattle.bits.specs.Answer.{number}
 use Rattle.sheet.specs.Settings.{settings_of, channels, end_at}
 use Rattle.sheet.proofs.SettingsLaws.{settings-legal}
 use Rattle.sheet.specs.declared.settings.Settings.{Settings}
@@ -34,7 +34,7 @@ use Rattle.promises.specs.Demand1.{encode-accepted}
 abbrev pub place : Settings → ℕ → ℕ → ℕ → ℕ
 place settings b c i = part_start (channels settings) b c + i
 
-module _ (sheet : List ℕ) (coeffs : List Float) (exps bap codes size : ℕ) (accepted : (encode_answer sheet coeffs exps bap codes size).refusal ≡ refusal.accepted)
+module _ (sheet : List ℕ) (coeffs : List Float) (exps bap codes size : ℕ) (accepted : number (encode_answer sheet coeffs exps bap codes size) ≡ 0)
     (b c i : ℕ) (hb : b < 6) (hc : c < channels (settings_of sheet)) (hi : i < end_at (settings_of sheet) c) where
   abbrev settings : Settings
   settings = settings_of sheet

@@ -6,6 +6,7 @@ use Rattle.std.proofs.Common.{sym, ap, ◌∙◌, true≢false, lt_of_lt_of_le, 
 use Rattle.std.proofs.Math.Decide.{dec_le}
 use Rattle.std.proofs.Math.Nat.{div-eq_of_lt}
 use Rattle.std.specs.Int.Bits.{bit_and}
+use Rattle.std.specs.Float.{is_sign_negative}
 use Rattle.std.specs.Float.{nan, inf, fin, binary32}
 use Rattle.std.specs.Float.Ieee.{up, down, fits, lt, is_nan, of_bits, to_bits, size}
 use Rattle.std.specs.Float.Ieee.Digits.{size-lt}
@@ -27,14 +28,6 @@ leading : (s : Bool) (b j d : ℕ) → b ≡ cond s 2147483648 0 + j * 8388608 +
     → b % 8388608 + 8388608 ≡ d
 leading true b j d e f l h = omega arith
 leading false b j d e f l h = omega arith
-
-sign_set : (s : Bool) (b j d : ℕ) → b ≡ cond s 2147483648 0 + j * 8388608 + d → d < 16777216 → j ≤ 126 → 2147483648 ≤ b → s ≡ true
-sign_set true b j d e l h g = refl
-sign_set false b j d e l h g = absurd (omega arith)
-
-sign_clear : (s : Bool) (b j d : ℕ) → b ≡ cond s 2147483648 0 + j * 8388608 + d → b < 2147483648 → s ≡ false
-sign_clear false b j d e g = refl
-sign_clear true b j d e g = absurd (omega arith)
 
 -- ---- the shift of an x that is z binary digits of the smallest values, 2^-149, by the exponent field f: all digits out, or some left
 
@@ -109,18 +102,19 @@ whole_is nan w f h W = absurd (unfold within in h)
 whole_is (inf s) w f h W = absurd (unfold within in h)
 whole_is (fin s m e) w f h W = shifted s m e f h w W (dec_le _ 142) ∙ sym (scaled-is s m e f h w W)
 
--- the code where the top bit is 1, of a size q: x is below zero, or a zero
-pub code-set : (x : Float) (w q : ℕ) → T (fits binary32 x) → T (within x) → q ≡ half_away (num x * 2 ^ (w - 1)) (den x) → 2147483648 ≤ to_bits binary32 x
+-- the code where the sign is set, of a size q: x is below zero, or a zero
+pub code-set : (x : Float) (w q : ℕ) → T (within x) → q ≡ half_away (num x * 2 ^ (w - 1)) (den x) → true ≡ is_sign_negative x
     → bit_and (2 ^ w - q) (2 ^ w - 1) ≡ signed_code w x
-code-set nan w q f h e b = absurd (unfold within in h)
-code-set (inf s) w q f h e b = absurd (unfold within in h)
-code-set (fin s m d) w q f h e b =
-    let t : s ≡ true = sign_set s (pattern s m d f h) (size (n s m d f h) - 24) _ (made s m d f h) (kept-lt 24 (n s m d f h)) (omega (arith, few s m d f h)) b in
-    by_bool (lt (fin s m d) zero32) (code_below (fin s m d) w q e h) (λ z. code-zero (fin s m d) w q e z (nothing s m d t z))
+unfolding is_sign_negative
+code-set nan w q h e t = absurd (unfold within in h)
+code-set (inf s) w q h e t = absurd (unfold within in h)
+code-set (fin s m d) w q h e t =
+    by_bool (lt (fin s m d) zero32) (code_below (fin s m d) w q e h) (λ z. code-zero (fin s m d) w q e z (nothing s m d (sym t) z))
 
--- and where it is 0
-pub code-clear : (x : Float) (w q : ℕ) → T (fits binary32 x) → T (within x) → q ≡ half_away (num x * 2 ^ (w - 1)) (den x) → to_bits binary32 x < 2147483648
+-- and where it is not
+pub code-clear : (x : Float) (w q : ℕ) → T (within x) → q ≡ half_away (num x * 2 ^ (w - 1)) (den x) → false ≡ is_sign_negative x
     → min q (2 ^ (w - 1) - 1) ≡ signed_code w x
-code-clear nan w q f h e b = absurd (unfold within in h)
-code-clear (inf s) w q f h e b = absurd (unfold within in h)
-code-clear (fin s m d) w q f h e b = code-above (fin s m d) w q e (not-below s m d (sign_clear s (pattern s m d f h) _ _ (made s m d f h) b))
+unfolding is_sign_negative
+code-clear nan w q h e t = absurd (unfold within in h)
+code-clear (inf s) w q h e t = absurd (unfold within in h)
+code-clear (fin s m d) w q h e t = code-above (fin s m d) w q e (not-below s m d (sym t))

@@ -1,9 +1,8 @@
 -- Cases by computation: document 01's starred ones of this step, bap 6 at exponent 0, and the levels of bap 5; what is not finite.
-use Rattle.std.specs.Prelude.{◌≡◌, refl, true, false, [], ◌∷◌, map, pos, negsuc}
+use Rattle.std.specs.Prelude.{◌≡◌, refl, true, false, [], ◌∷◌, map, pos, negsuc, Err}
 use Rattle.std.specs.Float.{nan, inf, fin}
 use Rattle.std.specs.Float.Ieee.{of_bits, mul, lt, sub, neg, of_int, round}
-use Rattle.bits.specs.Answer.{refused}
-use Rattle.bits.specs.Refusal as refusal
+use Rattle.bits.specs.declared.refusal.Refusal.TheVariants as refusal
 use Rattle.tables.specs.Entry.{entry}
 use Rattle.tables.specs.Quantizer.{levels, level_count, quantization_bits}
 use Rattle.quantiser.specs.Code.{code_of, quantised}
@@ -20,6 +19,6 @@ own-levels = refl
 
 -- what is not finite is refused as such, before an exponent and a bap that are not legal
 pub not_finite : map (λ x. quantised x 25 16) (inf false ∷ inf true ∷ nan ∷ [])
-    ≡ refused refusal.not_finite ∷ refused refusal.not_finite ∷ refused refusal.not_finite ∷ []
+    ≡ Err refusal.NotFinite ∷ Err refusal.NotFinite ∷ Err refusal.NotFinite ∷ []
 unfolding quantised
 not_finite = refl

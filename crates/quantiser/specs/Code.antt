@@ -1,9 +1,9 @@
 -- `quantise_mantissa` (A/52 7.3; document 01, "Mantissas"): the code of a coefficient at an exponent and a bap, and the refusals.
-use Rattle.std.specs.Prelude.{not, cond, ℕ, eqb, ltb, Float}
+use Rattle.std.specs.Prelude.{not, cond, ℕ, eqb, ltb, Float, Result, Ok}
 use Rattle.std.specs.Float.Ieee.Scale.{finite}
-use Rattle.bits.specs.Answer.{gives, refused}
-use Rattle.bits.specs.Refusal as refusal
-use Rattle.bits.specs.declared.answer.Answer.{Answer}
+use Rattle.bits.specs.Answer.{must}
+use Rattle.bits.specs.declared.refusal.Refusal.{Refusal}
+use Rattle.bits.specs.declared.refusal.Refusal.TheVariants as refusal
 use Rattle.tables.specs.Entry.{entry}
 use Rattle.tables.specs.Quantizer.{levels, level_count, quantization_bits}
 use Rattle.quantiser.specs.Scale.{scaled}
@@ -19,9 +19,9 @@ code_of coeff exponent bap =
     (signed_code (entry quantization_bits bap) (scaled coeff exponent)))
 
 -- what `quantise_mantissa` answers, the refusals in the order of document 01, "When a call is turned back": 3, 4, 5
-unfoldable pub quantised : Float → ℕ → ℕ → Answer
+unfoldable pub quantised : Float → ℕ → ℕ → Result ℕ Refusal
 quantised coeff exponent bap =
-    cond (not (finite coeff)) (refused refusal.not_finite)
-    (cond (ltb 24 exponent) (refused refusal.bad_exponent)
-    (cond (ltb 15 bap) (refused refusal.bad_code)
-    (gives (code_of coeff exponent bap))))
+    must (finite coeff) refusal.NotFinite
+    (must (not (ltb 24 exponent)) refusal.BadExponent
+    (must (not (ltb 15 bap)) refusal.BadCode
+    (Ok (code_of coeff exponent bap))))

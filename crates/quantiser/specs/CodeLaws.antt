@@ -1,5 +1,5 @@
 -- Laws of codes: the code is always in range for its bap; of bap 1 to 5 it is the nearest level's; a width is 5 to 16 bits.
-use Rattle.std.specs.Prelude.{◌≡◌, refl, Bool, true, false, not, ◌&&◌, cond, List, [], ◌∷◌, ℕ, zero, suc, ◌+◌, ◌-◌, ◌^◌, ◌≤◌, ◌<◌, T, eqb, leb, ltb, Float, length, get_or}
+use Rattle.std.specs.Prelude.{◌≡◌, refl, Bool, true, false, not, ◌&&◌, cond, List, [], ◌∷◌, ℕ, zero, suc, ◌+◌, ◌-◌, ◌^◌, ◌≤◌, ◌<◌, T, eqb, leb, ltb, Float, length, get_or, Ok, Err}
 use Rattle.std.proofs.Common.{ap, mod-lt, not-suc-le-zero, le_of_suc-le-suc, arith, eqb→eq, leb→le, pow_pos, pow_mono}
 use Rattle.std.proofs.Math.Decide.{dec_le}
 use borrow.Author.Tests.{eq-eqb, ne_eqb, lt-ltb, le-ltb, ltb-false}
@@ -7,8 +7,8 @@ use Rattle.std.specs.Float.{nan, inf}
 use Rattle.std.specs.Float.Ieee.{lt, round}
 use Rattle.std.specs.Float.Ieee.Fits.{and_l, and_r}
 use Rattle.std.specs.Float.Ieee.Scale.{finite}
-use Rattle.bits.specs.Answer.{gives, refused}
-use Rattle.bits.specs.Refusal as refusal
+use Rattle.bits.specs.Answer.{must, given}
+use Rattle.bits.specs.declared.refusal.Refusal.TheVariants as refusal
 use Rattle.mantissas.specs.Ranges.{levels as codeCount}
 use Rattle.mantissas.specs.RangesLaws.{row}
 use Rattle.tables.specs.Computed.{all_below, at-index}
@@ -82,7 +82,7 @@ unfolding levels_from
 length-levels-from n zero j = refl
 length-levels-from n (suc k) j = ap suc (length-levels-from n k (suc j))
 
-length-levels : (n : ℕ) → length (levels n) ≡ n
+pub length-levels : (n : ℕ) → length (levels n) ≡ n
 unfolding levels
 length-levels n = length-levels-from n n 0
 
@@ -92,7 +92,7 @@ nearest-lt m n h =
     let l = length-levels n in
     omega (arith, nearest-from-lt m (levels n) 0 0 (inf false) (omega arith))
 
-signed_lt : (w : ℕ) (m : Float) → 1 ≤ w → signed_code w m < 2 ^ w
+pub signed_lt : (w : ℕ) (m : Float) → 1 ≤ w → signed_code w m < 2 ^ w
 unfolding signed_code
 signed_lt w m h =
     let p : 0 < 2 ^ (w - 1) = pow_pos (w - 1) in
@@ -112,6 +112,10 @@ code-in-range x k b h = by-bap (dec_le b 0) (dec_le b 5)
     by-bap (no z) (no l) =
         let r = fraction b (omega arith) h in
         rw (ne_eqb b 0 (λ e. omega arith), le-ltb b 6 (omega arith)) (omega (arith, signed_lt (entry quantization_bits b) (scaled x k) (omega arith), r.codes))
+
+-- it fits 16 bits
+pub code-most : (x : Float) (k b : ℕ) → b ≤ 15 → code_of x k b < 65536
+code-most x k b h = omega (arith, code-in-range x k b h, (row b (omega arith)).levels-most)
 
 -- ---- the code of bap 1 to 5 is the nearest level's, the lowest index on a tie
 
@@ -142,30 +146,30 @@ code-nearest x k b f K h l =
 -- ---- the answer, by what was found of the input
 
 module _ (x : Float) (k b : ℕ) where
-  pub not_finite : finite x ≡ false → refused refusal.not_finite ≡ quantised x k b
+  pub not_finite : finite x ≡ false → Err refusal.NotFinite ≡ quantised x k b
   unfolding quantised
   not_finite f = rw f
 
-  pub large-exponent : finite x ≡ true → 24 < k → refused refusal.bad_exponent ≡ quantised x k b
+  pub large-exponent : finite x ≡ true → 24 < k → Err refusal.BadExponent ≡ quantised x k b
   unfolding quantised
   large-exponent f h = rw (f, lt-ltb 24 k h)
 
-  pub large-bap : finite x ≡ true → k ≤ 24 → 15 < b → refused refusal.bad_code ≡ quantised x k b
+  pub large-bap : finite x ≡ true → k ≤ 24 → 15 < b → Err refusal.BadCode ≡ quantised x k b
   unfolding quantised
   large-bap f h l = rw (f, le-ltb 24 k h, lt-ltb 15 b l)
 
-  pub all-fine : finite x ≡ true → k ≤ 24 → b ≤ 15 → (v : ℕ) → v ≡ code_of x k b → gives v ≡ quantised x k b
+  pub all-fine : finite x ≡ true → k ≤ 24 → b ≤ 15 → (v : ℕ) → v ≡ code_of x k b → Ok v ≡ quantised x k b
   unfolding quantised
   all-fine f h l v e = rw (f, le-ltb 24 k h, le-ltb 15 b l, e)
 
 -- what is answered fits 16 bits
-pub quantised-most : (x : Float) (k b : ℕ) → (quantised x k b).value < 65536
+pub quantised-most : (x : Float) (k b : ℕ) → given (quantised x k b) < 65536
 unfolding quantised
 quantised-most x k b = by_tests (finite x) (ltb 24 k) (ltb 15 b) refl
   where
     by_tests : (f g h : Bool) → ltb 15 b ≡ h
-        → (cond (not f) (refused refusal.not_finite) (cond g (refused refusal.bad_exponent) (cond h (refused refusal.bad_code) (gives (code_of x k b))))).value < 65536
+        → given (must f refusal.NotFinite (must (not g) refusal.BadExponent (must (not h) refusal.BadCode (Ok (code_of x k b))))) < 65536
     by_tests true true h e = omega arith
     by_tests true false true e = omega arith
-    by_tests true false false e = omega (arith, code-in-range x k b (ltb-false 15 b e), (row b (omega (arith, ltb-false 15 b e))).levels-most)
+    by_tests true false false e = omega (arith, code-most x k b (ltb-false 15 b e))
     by_tests false g h e = omega arith

@@ -1,17 +1,11 @@
 // bap 6 to 15: two's complement fractions (A/52 7.3.2), rounded half away from zero (`round` and `clamp` of the Rust).
 // A mantissa's sign and size cannot be foreseen, so the code is worked out from the pattern of the f32 with no branch on either.
-ghost use Rattle.std.specs.Prelude.{◌≡◌, ◌-◌, ◌*◌, ◌^◌, ◌≤◌, min, T};
+ghost use Rattle.std.specs.Prelude.{◌≡◌, ◌-◌, ◌*◌, ◌^◌, ◌≤◌, T};
 ghost use Rattle.std.specs.Float.Ieee.Positive.{num, den};
 ghost use Rattle.quantiser.specs.Inner.{within};
 ghost use Rattle.quantiser.specs.Asymmetric.{half_away, signed_code};
 
 use crate::scale::power;
-
-fn least(a: u32, b: u32) -> u32
-    ensures { result ≡ min a b }
-{
-    if a < b { a } else { b }
-}
 
 // |m| * 2^(width - 1) to the nearest whole number, a half up: the whole part of twice that, and one, halved.
 // |m| is its 24 digits times 2^(field - 150). A shift by 31 leaves nothing of them, as a longer one would. A subnormal m has no leading
@@ -21,10 +15,10 @@ fn half_away(m: f32, width: u32) -> u32
     requires le_width { (1 ≤ width) × (width ≤ 16) }
     ensures { result ≡ half_away (num m * 2 ^ (width - 1)) (den m) }
 {
-    let pattern = f32::to_bits(m);
+    let pattern = m.to_bits();
     let field = pattern / 8388608 % 256;
     let digits = pattern % 8388608 + 8388608;
-    let twice = digits >> least(150 - width - field, 31);
+    let twice = digits >> (150 - width - field).min(31);
     (twice + 1) / 2
 }
 
@@ -36,11 +30,7 @@ pub fn signed_code(m: f32, width: u32) -> u32
 {
     let size = half_away(m, width);
     let all = power(width);
-    let above = least(size, power(width - 1) - 1);
+    let above = size.min(power(width - 1) - 1);
     let below = (all - size) & (all - 1);
-    if 2147483648 <= f32::to_bits(m) {
-        below
-    } else {
-        above
-    }
+    if m.is_sign_negative() { below } else { above }
 }

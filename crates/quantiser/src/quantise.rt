@@ -6,12 +6,12 @@ ghost use Rattle.quantiser.specs.Code.{code_of, quantised};
 use crate::asymmetric::signed_code;
 use crate::scale::scale;
 use crate::symmetric::level_code;
-use bits::refusal::{BAD_CODE, BAD_EXPONENT, NOT_FINITE};
-use bits::{Answer, accepted, refused};
+use bits::Refusal;
 use shaping::is_finite;
 
 // The code of a finite coefficient.
-pub fn mantissa_code(coeff: f32, exponent: u32, bap: u8) -> u32
+#[tactic(auto, unfolding(crate::specs::Code::code_of))]
+pub fn mantissa_code(coeff: f32, exponent: u32, bap: u8) -> u16
     requires t { T (finite coeff) }
     requires exponent_bound { (exponent ≤ 24) × (bap ≤ 15) }
     ensures { result ≡ code_of coeff exponent bap }
@@ -23,21 +23,22 @@ pub fn mantissa_code(coeff: f32, exponent: u32, bap: u8) -> u32
     if bap < 6 {
         return level_code(m, bap);
     }
-    signed_code(m, tables::quantization_bits(bap) as u32)
+    signed_code(m, u32::from(tables::quantization_bits()[usize::from(bap)])) as u16
 }
 
 // The code of any coefficient, exponent and bap, or the refusal: 3, 4, 5 in this order.
-pub fn quantise_mantissa(coeff: f32, exponent: u32, bap: u32) -> Answer
+#[tactic(auto, using(std::proofs::lemmas::Bool::Decides::nat_tests), unfolding(crate::specs::Code::quantised))]
+pub fn quantise_mantissa(coeff: f32, exponent: u32, bap: u32) -> Result<u16, Refusal>
     ensures { result ≡ quantised coeff exponent bap }
 {
     if !is_finite(coeff) {
-        return refused(NOT_FINITE);
+        return Err(Refusal::NotFinite);
     }
     if exponent > 24 {
-        return refused(BAD_EXPONENT);
+        return Err(Refusal::BadExponent);
     }
     if bap > 15 {
-        return refused(BAD_CODE);
+        return Err(Refusal::BadCode);
     }
-    accepted(mantissa_code(coeff, exponent, bap as u8))
+    Ok(mantissa_code(coeff, exponent, bap as u8))
 }

@@ -2,16 +2,14 @@
 ghost use Rattle.std.specs.Prelude.{◌≡◌, ◌^◌, ◌≤◌, pos};
 ghost use Rattle.std.specs.Float.{binary32};
 ghost use Rattle.std.specs.Float.Ieee.{of_int};
-ghost use Rattle.quantiser.specs.Scale.{held, scaled};
-
-const MINUS_ONE: f32 = -1.0;
+ghost use Rattle.quantiser.specs.Scale.{scaled};
 
 // 2^k as a whole number.
 pub fn power(k: u32) -> u32
     requires { k ≤ 24 }
     ensures { result ≡ 2 ^ k }
 {
-    1u32 << k
+    1 << k
 }
 
 // 2^k as an f32, which has it exactly.
@@ -22,23 +20,10 @@ pub fn power_f32(k: u32) -> f32
     power(k) as f32
 }
 
-// Held to -1..1.
-fn hold(m: f32) -> f32
-    ensures { result ≡ held m }
-{
-    if m < MINUS_ONE {
-        return MINUS_ONE;
-    }
-    if m > 1.0 {
-        return 1.0;
-    }
-    m
-}
-
 // The mantissa of a coefficient at an exponent.
 pub fn scale(coeff: f32, exponent: u32) -> f32
     requires { exponent ≤ 24 }
     ensures { result ≡ scaled coeff exponent }
 {
-    hold(coeff * power_f32(exponent))
+    (coeff * power_f32(exponent)).clamp(-1.0, 1.0)
 }

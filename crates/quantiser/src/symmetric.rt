@@ -3,7 +3,8 @@ ghost use Rattle.std.specs.Prelude.{◌≡◌, ◌≤◌, length};
 ghost use Rattle.tables.specs.Quantizer.{levels, level_count};
 ghost use Rattle.quantiser.specs.Symmetric.{distance, nearest_of};
 
-// |m - level|, by a rounded f32 difference.
+// |m - level|, by a rounded f32 difference. No `abs`, which would make a 0 of a -0: the definition does not.
+#[tactic(auto, unfolding(crate::specs::Symmetric::distance))]
 fn distance_to(m: f32, level: f32) -> f32
     ensures { result ≡ distance m level }
 {
@@ -12,34 +13,26 @@ fn distance_to(m: f32, level: f32) -> f32
 }
 
 // The index of the level nearest to m, the lowest of several.
-fn nearest_symmetric(m: f32, table: &[f32]) -> u32
+fn nearest_symmetric(m: f32, table: &[f32]) -> u16
     requires { length table.now ≤ 15 }
     ensures { result ≡ nearest_of m table.now }
 {
-    let mut best = 0u32;
-    let mut best_distance: f32 = 1.0 / 0.0;
-    let mut i = 0usize;
-    while i < table.len() {
-        let d = distance_to(m, table[i]);
+    let mut best = 0;
+    let mut best_distance = f32::INFINITY;
+    for (i, &level) in table.iter().enumerate() {
+        let d = distance_to(m, level);
         if d < best_distance {
             best_distance = d;
-            best = i as u32;
+            best = i as u16;
         }
-        i += 1;
     }
     best
 }
 
 // The code of bap 1 to 5.
-pub fn level_code(m: f32, bap: u8) -> u32
+pub fn level_code(m: f32, bap: u8) -> u16
     requires { (1 ≤ bap) × (bap ≤ 5) }
     ensures { result ≡ nearest_of m (levels (level_count bap)) }
 {
-    match bap {
-        1 => nearest_symmetric(m, &tables::mant_level_3()),
-        2 => nearest_symmetric(m, &tables::mant_level_5()),
-        3 => nearest_symmetric(m, &tables::mant_level_7()),
-        4 => nearest_symmetric(m, &tables::mant_level_11()),
-        _ => nearest_symmetric(m, &tables::mant_level_15()),
-    }
+    nearest_symmetric(m, tables::mant_level(bap))
 }

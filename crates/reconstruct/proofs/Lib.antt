@@ -1,2 +1,3 @@
 -- Theorems on definitions of specs/.
 pub mod AnswersLaws
+pub mod Zeros

@@ -1,12 +1,12 @@
 -- `reconstruct_mantissa` (document 02, W3): "each bin's answer is silent or a level with its float", and the refusals.
-use Rattle.std.specs.Prelude.{cond, ℕ, eqb, ltb, Float}
-use Rattle.bits.specs.Refusal as refusal
+use Rattle.std.specs.Prelude.{cond, ℕ, Result, Ok, Err, eqb, ltb, Float}
+use Rattle.bits.specs.declared.refusal.Refusal.{Refusal}
+use Rattle.bits.specs.declared.refusal.Refusal.TheVariants as refusal
 use Rattle.mantissas.specs.Ranges.{levels}
 use Rattle.quantiser.specs.Scale.{zero32}
 use Rattle.reconstruct.specs.Value.{mantissa, unscaled}
 use Rattle.reconstruct.specs.declared.mantissa.Reconstructed.{Reconstructed}
 use Rattle.reconstruct.specs.declared.mantissa.Reconstructed.TheVariants.{Silent, Level}
-use Rattle.reconstruct.specs.declared.mantissa.BinAnswer.{BinAnswer}
 
 -- "either no value (bap 0) or a value": dither is left to the player
 unfoldable pub reconstructed : ℕ → ℕ → ℕ → Reconstructed
@@ -27,15 +27,9 @@ level_of (Level x) = x
 
 -- ---- the answer
 
-abbrev pub gives : Reconstructed → BinAnswer
-gives bin = record { refusal = refusal.accepted; bin = bin }
-
-abbrev pub refused : ℕ → BinAnswer
-refused k = record { refusal = k; bin = Silent }
-
 -- 4, then 5: "code range faults keep number 5"
-unfoldable pub bin_answer : ℕ → ℕ → ℕ → BinAnswer
+unfoldable pub bin_answer : ℕ → ℕ → ℕ → Result Reconstructed Refusal
 bin_answer exponent bap code =
-    cond (ltb 24 exponent) (refused refusal.bad_exponent)
-    (cond (ltb 15 bap) (refused refusal.bad_code)
-    (cond (ltb code (levels bap)) (gives (reconstructed exponent bap code)) (refused refusal.bad_code)))
+    cond (ltb 24 exponent) (Err refusal.BadExponent)
+    (cond (ltb 15 bap) (Err refusal.BadCode)
+    (cond (ltb code (levels bap)) (Ok (reconstructed exponent bap code)) (Err refusal.BadCode)))

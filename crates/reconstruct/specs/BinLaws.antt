@@ -1,5 +1,5 @@
 -- A bin as the code works it out, and the ways out of `reconstruct_mantissa`.
-use Rattle.std.specs.Prelude.{◌≡◌, Bool, not, ℕ, ◌+◌, ◌-◌, ◌*◌, ◌/◌, ◌^◌, ◌≤◌, ◌<◌, T, eqb, leb, ltb, pos, Float}
+use Rattle.std.specs.Prelude.{◌≡◌, Bool, not, ℕ, ◌+◌, ◌-◌, ◌*◌, ◌/◌, ◌^◌, ◌≤◌, ◌<◌, T, Ok, Err, eqb, leb, ltb, pos, Float}
 use Rattle.std.proofs.Math.Path.{refl, ap}
 use Rattle.std.proofs.Common.{sym, ◌∙◌, le_trans, le_of_eq, leb→le, le→leb, lit≤, pow_mono}
 use Rattle.std.proofs.Math.Bool.{true, false, cond}
@@ -7,14 +7,14 @@ use Rattle.std.proofs.Math.Decide.{dec_le}
 use native.Mathlib.Omega.{arith}
 use borrow.Author.Tests.{eq-eqb, ne_eqb, lt-ltb, le-ltb}
 use Rattle.std.specs.Float.Ieee.{binary32, round, neg, div, of_int, in_float}
-use Rattle.bits.specs.Refusal as refusal
+use Rattle.bits.specs.declared.refusal.Refusal.TheVariants as refusal
 use Rattle.tables.specs.Computed.{all_below, at-index}
 use Rattle.tables.specs.Entry.{entry}
 use Rattle.tables.specs.Quantizer.{level_count, level_counts, quantization_bits}
 use Rattle.mantissas.specs.Ranges.{levels}
 use Rattle.mantissas.specs.RangesLaws.{row}
 use Rattle.quantiser.specs.CodeLaws as quantiser
-use Rattle.reconstruct.specs.Bin.{reconstructed, flag_of, level_of, gives, refused, bin_answer}
+use Rattle.reconstruct.specs.Bin.{reconstructed, flag_of, level_of, bin_answer}
 use Rattle.reconstruct.specs.Inner.{value_of, symmetric_of, asymmetric_of}
 use Rattle.reconstruct.specs.QuotientLaws.{quotient_is, round-neg, unscaled-zero}
 use Rattle.reconstruct.specs.Value.{mantissa, unscaled}
@@ -168,18 +168,18 @@ module _ (exponent bap code : ℕ) where
 
   -- ---- the answer: 4, 5, 5, the bin
 
-  pub bin-exponent : 24 < exponent → refused refusal.bad_exponent ≡ bin_answer exponent bap code
+  pub bin-exponent : 24 < exponent → Err refusal.BadExponent ≡ bin_answer exponent bap code
   unfolding bin_answer
   bin-exponent h = rw (lt-ltb 24 exponent h)
 
-  pub bin-bap : exponent ≤ 24 → 15 < bap → refused refusal.bad_code ≡ bin_answer exponent bap code
+  pub bin-bap : exponent ≤ 24 → 15 < bap → Err refusal.BadCode ≡ bin_answer exponent bap code
   unfolding bin_answer
   bin-bap k h = rw (le-ltb 24 exponent k, lt-ltb 15 bap h)
 
-  pub bin-code : exponent ≤ 24 → bap ≤ 15 → levels bap ≤ code → refused refusal.bad_code ≡ bin_answer exponent bap code
+  pub bin-code : exponent ≤ 24 → bap ≤ 15 → levels bap ≤ code → Err refusal.BadCode ≡ bin_answer exponent bap code
   unfolding bin_answer
   bin-code k b h = rw (le-ltb 24 exponent k, le-ltb 15 bap b, le-ltb code (levels bap) h)
 
-  pub bin-given : exponent ≤ 24 → bap ≤ 15 → code < levels bap → (r : Reconstructed) → r ≡ reconstructed exponent bap code → gives r ≡ bin_answer exponent bap code
+  pub bin-given : exponent ≤ 24 → bap ≤ 15 → code < levels bap → (r : Reconstructed) → r ≡ reconstructed exponent bap code → Ok r ≡ bin_answer exponent bap code
   unfolding bin_answer
   bin-given k b h r e = rw (le-ltb 24 exponent k, le-ltb 15 bap b, lt-ltb code (levels bap) h, e)

@@ -1,12 +1,12 @@
 -- Cases by computation: no value, levels, signed codes, the ends of the range, and the refusals in their order.
-use Rattle.std.specs.Prelude.{◌≡◌, refl, true, false, [], ◌∷◌, map, pos, negsuc}
+use Rattle.std.specs.Prelude.{◌≡◌, refl, Err, true, false, [], ◌∷◌, map, pos, negsuc}
 use Rattle.std.specs.Float.{fin, binary32}
 use Rattle.std.specs.Float.Ieee.{div, of_int, of_bits}
-use Rattle.bits.specs.Refusal as refusal
+use Rattle.bits.specs.declared.refusal.Refusal.TheVariants as refusal
 use Rattle.mantissas.specs.Ranges.{levels}
 use Rattle.tables.specs.Entry.{entry}
 use Rattle.tables.specs.Quantizer.{level_count, level_counts, quantization_bits}
-use Rattle.reconstruct.specs.Bin.{reconstructed, refused, bin_answer}
+use Rattle.reconstruct.specs.Bin.{reconstructed, bin_answer}
 use Rattle.reconstruct.specs.declared.mantissa.Reconstructed.TheVariants.{Silent, Level}
 
 -- bap 1 at exponent 0: -2/3, 0 and 2/3 as f32
@@ -27,6 +27,6 @@ smallest = refl
 
 -- 4 before 5; a bap above 15; the first code past bap 0 and bap 6
 pub refusals : bin_answer 25 16 0 ∷ bin_answer 24 16 0 ∷ bin_answer 24 0 1 ∷ bin_answer 24 6 32 ∷ []
-    ≡ refused refusal.bad_exponent ∷ refused refusal.bad_code ∷ refused refusal.bad_code ∷ refused refusal.bad_code ∷ []
+    ≡ Err refusal.BadExponent ∷ Err refusal.BadCode ∷ Err refusal.BadCode ∷ Err refusal.BadCode ∷ []
 unfolding bin_answer levels level_count level_counts entry
 refusals = refl

@@ -1,8 +1,10 @@
 -- `reconstruct_body` (document 02, W3): the listening copy of a frame's exponents and codes. Its bap is the allocation of its exponents, as in
 -- `write_body`.
-use Rattle.std.specs.Prelude.{ℕ, ◌-◌, Bool, cond, ◌&&◌, List, ◌++◌, map, eqb, Float, length, get_or, replicate}
+use Rattle.std.specs.Prelude.{ℕ, ◌-◌, Bool, ◌&&◌, List, ◌++◌, map, Result, Ok, Float, length, get_or, replicate}
+use Rattle.bits.specs.Answer.{must, checked, kept}
 use Rattle.bits.specs.Parts.{joined, piece, tab}
-use Rattle.bits.specs.Refusal as refusal
+use Rattle.bits.specs.declared.refusal.Refusal.{Refusal}
+use Rattle.bits.specs.declared.refusal.Refusal.TheVariants as refusal
 use Rattle.sheet.specs.Sheet.{check_of}
 use Rattle.sheet.specs.Settings.{settings_of, channels, end_at}
 use Rattle.sheet.specs.declared.settings.Settings.{Settings}
@@ -40,25 +42,20 @@ levels_of settings exps codes = map level_of (copy_of settings exps codes)
 
 -- ---- the answer: 1, 2, 11, 10, 4, 5, as `write_body`
 
--- a test that must hold, else the number
-abbrev pub must : Bool → ℕ → ℕ → ℕ
-must test number rest = cond test rest number
-
 -- the four buffers have the sheet's length; `flags` and `levels` are the lengths of the outputs
 abbrev pub all_fit : Settings → List ℕ → List ℕ → ℕ → ℕ → Bool
 all_fit settings exps codes flags levels = fits settings (length exps) && (fits settings (length codes) && (fits settings flags && fits settings levels))
 
 -- under settings
-unfoldable pub copy_under : Settings → List ℕ → List ℕ → ℕ → ℕ → ℕ
+unfoldable pub copy_under : Settings → List ℕ → List ℕ → ℕ → ℕ → Result Unit Refusal
 copy_under settings exps codes flags levels =
-    must (all_fit settings exps codes flags levels) refusal.wrong_length (
-    must (exps_legal settings exps) refusal.bad_exponent (
-    must (codes_legal settings exps codes) refusal.bad_code refusal.accepted))
+    must (all_fit settings exps codes flags levels) refusal.WrongLength (
+    must (exps_legal settings exps) refusal.BadExponent (
+    must (codes_legal settings exps codes) refusal.BadCode (Ok tt)))
 
-unfoldable pub copy_number : List ℕ → List ℕ → List ℕ → ℕ → ℕ → ℕ
-copy_number sheet exps codes flags levels =
-    must (eqb (check_of sheet) refusal.accepted) (check_of sheet) (copy_under (settings_of sheet) exps codes flags levels)
+unfoldable pub copy_answer : List ℕ → List ℕ → List ℕ → ℕ → ℕ → Result Unit Refusal
+copy_answer sheet exps codes flags levels = checked (check_of sheet) (copy_under (settings_of sheet) exps codes flags levels)
 
 -- an output afterwards: as it was where the call was refused
-unfoldable pub copy_left : {A : Type 0} → ℕ → List A → List A → List A
-copy_left number copy before = cond (eqb number refusal.accepted) copy before
+unfoldable pub copy_left : {A : Type 0} → Result Unit Refusal → List A → List A → List A
+copy_left answer copy before = kept answer copy before

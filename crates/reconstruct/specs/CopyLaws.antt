@@ -4,6 +4,7 @@ use Rattle.std.specs.Prelude.{◌≡◌, length, take, drop, get_or, replicate}
 use Rattle.std.proofs.Math.Path.{refl, sym, ap, ap₂}
 use Rattle.std.proofs.Common.{◌∙◌, arith, get_or-take, take-take, length-take-le}
 use mathlib.Core.List.{List, [], ◌∷◌, ◌++◌, map}
+use Rattle.std.proofs.lemmas.List.{map-append}
 use Rattle.bits.specs.Parts.{joined, piece, tab}
 use Rattle.bits.specs.PartsLaws.{joined-cong, tab-cong}
 use Rattle.mantissas.specs.CodedLaws.{coded-take, coded-drop, coded-length}
@@ -30,10 +31,6 @@ use Rattle.reconstruct.specs.declared.mantissa.Reconstructed.TheVariants.{Silent
 -- ---- one thing of each entry
 
 module _ {A B : Type 0} (f : A → B) where
-  map-append : (xs ys : List A) → map f (xs ++ ys) ≡ map f xs ++ map f ys
-  map-append [] ys = refl
-  map-append (x ∷ xs) ys = ap (λ (l : List B). f x ∷ l) (map-append xs ys)
-
   map-replicate : (n : ℕ) (x : A) → map f (replicate n x) ≡ replicate n (f x)
   map-replicate zero x = refl
   map-replicate (suc n) x = ap (λ (l : List B). f x ∷ l) (map-replicate n x)
@@ -41,7 +38,7 @@ module _ {A B : Type 0} (f : A → B) where
   pub map-joined : (n : ℕ) (g : ℕ → List A) → joined n (λ i. map f (g i)) ≡ map f (joined n g)
   unfolding joined
   map-joined zero g = refl
-  map-joined (suc n) g = ap (λ (l : List B). l ++ map f (g n)) (map-joined n g) ∙ sym (map-append (joined n g) (g n))
+  map-joined (suc n) g = ap (λ (l : List B). l ++ map f (g n)) (map-joined n g) ∙ sym (map-append f (joined n g) (g n))
 
   map-tab : (n : ℕ) (g : ℕ → A) → tab n (λ i. f (g i)) ≡ map f (tab n g)
   unfolding tab

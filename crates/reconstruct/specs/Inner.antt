@@ -22,6 +22,13 @@ symmetric_of L k = record { negative = ltb (2 * k) (L - 1); size = (2 * k - (L -
 abbrev pub asymmetric_of : ℕ → ℕ → Fraction
 asymmetric_of L k = record { negative = not (ltb k (L / 2)); size = cond (ltb k (L / 2)) k (L - k); over = L / 2 }
 
+-- four buffers of so many entries have one for each bin of the sheet's frames
+pub record Whole (settings : Settings) (exps codes flags levels : ℕ) : Type 0 where
+  pub exps-long : exps ≡ 256 * channels settings * 6
+  pub codes-long : codes ≡ 256 * channels settings * 6
+  pub flags_long : flags ≡ 256 * channels settings * 6
+  pub levels-long : levels ≡ 256 * channels settings * 6
+
 -- bins that can be reconstructed: no exponent above 24, and each code is one of its bap's
 pub record LegalBins (exps bap codes : List ℕ) : Type 0 where
   pub bap-long : length bap ≡ length exps

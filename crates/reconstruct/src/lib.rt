@@ -7,4 +7,4 @@ pub mod rows;
 pub mod values;
 
 pub use body::reconstruct_body;
-pub use mantissa::{BinAnswer, Reconstructed, flag_of, level_of, reconstruct_mantissa};
+pub use mantissa::{Reconstructed, reconstruct_mantissa};

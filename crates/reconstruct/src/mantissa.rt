@@ -1,32 +1,39 @@
 // `reconstruct_mantissa`: what one bin's code stands for.
 ghost use Rattle.std.specs.Prelude.{◌≡◌, ◌≤◌, ◌<◌};
 ghost use Rattle.mantissas.specs.Ranges.{levels};
-ghost use Rattle.reconstruct.specs.Bin.{reconstructed, flag_of, level_of, refused, bin_answer};
+ghost use Rattle.reconstruct.specs.Bin.{reconstructed, flag_of, level_of, bin_answer};
 
 use crate::values::{fraction_of, value};
-use bits::refusal::{ACCEPTED, BAD_CODE, BAD_EXPONENT};
+use bits::Refusal;
 use quantiser::scale::power_f32;
 
-// A bin has no value (bap 0), or a level.
-#[derive(Clone, Copy)]
+/// A bin has no value (bap 0), or a level. Document 01 names this form, an enum `Silent` or `Level(f32)`: so it is no `Option`.
+#[derive(Clone, Copy, Debug, PartialEq)]
 pub enum Reconstructed {
     Silent,
     Level(f32),
 }
 
-// The refusal's number or 0, and the bin, silent where it is refused.
-#[derive(Clone, Copy)]
-pub struct BinAnswer {
-    pub refusal: u32,
-    pub bin: Reconstructed,
-}
+// A bin in two numbers, as the host's entries and the frame's buffers hold it.
+impl Reconstructed {
+    // Whether it has a level.
+    pub fn flag(self) -> u8
+        ensures { result ≡ flag_of self }
+    {
+        match self {
+            Reconstructed::Silent => 0,
+            Reconstructed::Level(_) => 1,
+        }
+    }
 
-fn refused(number: u32) -> BinAnswer
-    ensures { result ≡ refused number }
-{
-    BinAnswer {
-        refusal: number,
-        bin: Reconstructed::Silent,
+    // Its level, 0 where it is silent.
+    pub fn level(self) -> f32
+        ensures { result ≡ level_of self }
+    {
+        match self {
+            Reconstructed::Silent => 0.0,
+            Reconstructed::Level(level) => level,
+        }
     }
 }
 
@@ -40,6 +47,7 @@ pub(crate) fn level_at(exponent: u32, bap: u8, code: u32, count: u32) -> f32
 }
 
 // A bin whose bap has `count` codes.
+#[tactic(auto, unfolding(crate::specs::Bin::reconstructed))]
 fn bin_at(exponent: u32, bap: u8, code: u32, count: u32) -> Reconstructed
     requires exponent_bound { (exponent ≤ 24) × (bap < 16) }
     requires count_value { (count ≡ levels bap) × (code < count) }
@@ -52,42 +60,19 @@ fn bin_at(exponent: u32, bap: u8, code: u32, count: u32) -> Reconstructed
 }
 
 // Any exponent, bap and code, or the refusal: 4, 5 in this order.
-pub fn reconstruct_mantissa(exponent: u32, bap: u32, code: u32) -> BinAnswer
+#[tactic(auto, unfolding(crate::specs::Bin::bin_answer))]
+pub fn reconstruct_mantissa(exponent: u32, bap: u32, code: u32) -> Result<Reconstructed, Refusal>
     ensures { result ≡ bin_answer exponent bap code }
 {
     if exponent > 24 {
-        return refused(BAD_EXPONENT);
+        return Err(Refusal::BadExponent);
     }
     if bap > 15 {
-        return refused(BAD_CODE);
+        return Err(Refusal::BadCode);
     }
     let count = mantissas::code::levels(bap as u8);
     if code >= count {
-        return refused(BAD_CODE);
+        return Err(Refusal::BadCode);
     }
-    let bin = bin_at(exponent, bap as u8, code, count);
-    BinAnswer {
-        refusal: ACCEPTED,
-        bin,
-    }
-}
-
-// Whether a bin has a level.
-pub fn flag_of(bin: Reconstructed) -> u8
-    ensures { result ≡ flag_of bin }
-{
-    match bin {
-        Reconstructed::Silent => 0,
-        Reconstructed::Level(_) => 1,
-    }
-}
-
-// Its level, 0 where it is silent.
-pub fn level_of(bin: Reconstructed) -> f32
-    ensures { result ≡ level_of bin }
-{
-    match bin {
-        Reconstructed::Silent => 0.0,
-        Reconstructed::Level(level) => level,
-    }
+    Ok(bin_at(exponent, bap as u8, code, count))
 }

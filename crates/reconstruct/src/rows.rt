@@ -1,34 +1,14 @@
-// The listening copy, part by part: a channel's bins, a block, a frame.
-ghost use Rattle.std.specs.Prelude.{◌≡◌, cond, map, ◌*◌, ◌≤◌, eqb, length};
-ghost use Rattle.sheet.specs.LegalSettings.{LegalSettings};
+// The listening copy, part by part: a channel's bins, a block, a frame. Flags and levels are two slices: the C interface lends them so.
+ghost use Rattle.std.specs.Prelude.{◌≡◌, map, ◌*◌, ◌≤◌, length};
 ghost use Rattle.sheet.specs.Settings.{channels};
 ghost use Rattle.frame.specs.Legal.{LegalFrame};
 ghost use Rattle.frame.specs.Body.{baps_of};
 ghost use Rattle.reconstruct.specs.Bin.{flag_of, level_of};
 ghost use Rattle.reconstruct.specs.Copy.{copy_bins, copy_part, copy_row, flags_of, levels_of};
-ghost use Rattle.reconstruct.specs.Inner.{LegalBins, LegalRow};
+ghost use Rattle.reconstruct.specs.Inner.{LegalBins, LegalRow, Whole};
 
 use crate::mantissa::level_at;
-use sheet::Settings;
-
-// Whether a bin with this bap has a level.
-fn flag_at(bap: u8) -> u8
-    ensures { result ≡ cond (eqb bap 0) 0 1 }
-{
-    if bap == 0 { 0 } else { 1 }
-}
-
-fn wide(x: u8) -> u32
-    ensures { result ≡ x }
-{
-    x as u32
-}
-
-fn wide_code(x: u16) -> u32
-    ensures { result ≡ x }
-{
-    x as u32
-}
+use sheet::Track;
 
 fn reconstruct_bins(
     exps: &[u8],
@@ -45,8 +25,13 @@ fn reconstruct_bins(
     let counts = mantissas::code::level_table();
     for i in 0..exps.len() {
         let b = bap[i];
-        has_level[i] = flag_at(b);
-        levels[i] = level_at(wide(exps[i]), b, wide_code(codes[i]), counts[b as usize]);
+        has_level[i] = u8::from(b != 0);
+        levels[i] = level_at(
+            u32::from(exps[i]),
+            b,
+            u32::from(codes[i]),
+            counts[usize::from(b)],
+        );
     }
 }
 
@@ -71,29 +56,28 @@ fn reconstruct_part(
         &mut has_level[0..end],
         &mut levels[0..end],
     );
-    slices::fill(&mut has_level[end..256], 0);
-    slices::fill_levels(&mut levels[end..256], 0.0);
+    has_level[end..256].fill(0);
+    levels[end..256].fill(0.0);
 }
 
 // A block.
 fn reconstruct_row(
-    settings: Settings,
+    track: &Track,
     exps: &[u8],
     bap: &[u8],
     codes: &[u16],
     has_level: &mut [u8],
     levels: &mut [f32],
 )
-    requires legal_settings { LegalSettings settings }
-    requires legal_row { LegalRow settings exps.now bap.now codes.now }
-    requires has_level_len { (length has_level.old ≡ 256 * channels settings) × (length levels.old ≡ 256 * channels settings) }
-    ensures has_level_after { has_level.new ≡ map flag_of (copy_row settings exps.now codes.now) }
-    ensures levels_after { levels.new ≡ map level_of (copy_row settings exps.now codes.now) }
+    requires legal_row { LegalRow track.now.settings exps.now bap.now codes.now }
+    requires has_level_len { (length has_level.old ≡ 256 * channels track.now.settings) × (length levels.old ≡ 256 * channels track.now.settings) }
+    ensures has_level_after { has_level.new ≡ map flag_of (copy_row track.now.settings exps.now codes.now) }
+    ensures levels_after { levels.new ≡ map level_of (copy_row track.now.settings exps.now codes.now) }
 {
-    let n = sheet::channels(settings);
+    let n = track.channels();
     for c in 0..n {
         let a = 256 * c;
-        let e = a + sheet::end_at(settings, c);
+        let e = a + track.end_at(c);
         let q = a + 256;
         reconstruct_part(
             &exps[a..e],
@@ -107,27 +91,25 @@ fn reconstruct_row(
 
 // All six blocks of a legal frame, at its allocation.
 pub(crate) fn reconstruct_frame(
-    settings: Settings,
+    track: &Track,
     exps: &[u8],
     bap: &[u8],
     codes: &[u16],
     has_level: &mut [u8],
     levels: &mut [f32],
 )
-    requires legal_settings { LegalSettings settings }
-    requires legal_frame { LegalFrame settings exps.now codes.now × (bap.now ≡ baps_of settings exps.now) }
-    requires exps_len { (length exps.now ≡ 256 * channels settings * 6) × (length codes.now ≡ 256 * channels settings * 6) }
-    requires has_level_len { (length has_level.old ≡ 256 * channels settings * 6) × (length levels.old ≡ 256 * channels settings * 6) }
-    ensures has_level_after { has_level.new ≡ flags_of settings exps.now codes.now }
-    ensures levels_after { levels.new ≡ levels_of settings exps.now codes.now }
+    requires legal_frame { LegalFrame track.now.settings exps.now codes.now × (bap.now ≡ baps_of track.now.settings exps.now) }
+    requires whole { Whole track.now.settings (length exps.now) (length codes.now) (length has_level.old) (length levels.old) }
+    ensures has_level_after { has_level.new ≡ flags_of track.now.settings exps.now codes.now }
+    ensures levels_after { levels.new ≡ levels_of track.now.settings exps.now codes.now }
 {
-    let n = sheet::channels(settings);
+    let n = track.channels();
     let z = 256 * n;
     for b in 0..6 {
         let a = z * b;
         let e = a + z;
         reconstruct_row(
-            settings,
+            track,
             &exps[a..e],
             &bap[a..e],
             &codes[a..e],

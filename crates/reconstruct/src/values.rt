@@ -5,7 +5,7 @@ ghost use Rattle.std.specs.Float.Ieee.{round};
 ghost use Rattle.reconstruct.specs.Inner.{value_of, symmetric_of, asymmetric_of};
 
 // A sign, a size and what it is over.
-#[derive(Clone, Copy)]
+#[derive(Clone, Copy, Debug, PartialEq, Eq)]
 pub struct Fraction {
     pub negative: bool,
     pub size: u32,
@@ -20,10 +20,9 @@ fn symmetric(code: u32, levels: u32) -> Fraction
     let twice = 2 * code;
     let top = levels - 1;
     let negative = twice < top;
-    let size = if negative { top - twice } else { twice - top };
     Fraction {
         negative,
-        size,
+        size: twice.abs_diff(top),
         over: levels,
     }
 }

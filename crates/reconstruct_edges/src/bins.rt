@@ -16,21 +16,17 @@ fn bin(rt: &impl Print, exponent: u32, bap: u32, code: u32) -> io::Result<()> {
     println!(rt; "")
 }
 
-fn wide(code: u16) -> u32 {
-    code as u32
-}
-
 // The last code of a bap and the first past it, at the last exponent and the first past it.
 fn range_of(rt: &impl Print, bap: u32) -> io::Result<()>
     requires { bap < 16 }
 {
-    let largest = wide(LARGEST[bap as usize]);
+    let largest = u32::from(LARGEST[bap as usize]);
     bin(rt, 24, bap, largest)?;
     bin(rt, 24, bap, largest.wrapping_add(1))?;
     bin(rt, 25, bap, largest)?;
     bin(rt, 25, bap, largest.wrapping_add(1))?;
     bin(rt, 24, bap, 65536)?;
-    bin(rt, 24, bap, 4294967295)
+    bin(rt, 24, bap, u32::MAX)
 }
 
 pub(crate) fn ranges(rt: &impl Print) -> io::Result<()> {
@@ -44,7 +40,7 @@ pub(crate) fn exponents(rt: &impl Print) -> io::Result<()> {
     bin(rt, 24, 6, 1)?;
     bin(rt, 25, 6, 1)?;
     bin(rt, 256, 6, 1)?;
-    bin(rt, 4294967295, 6, 1)?;
+    bin(rt, u32::MAX, 6, 1)?;
     bin(rt, 24, 0, 0)?;
     bin(rt, 25, 0, 0)
 }
@@ -55,17 +51,17 @@ pub(crate) fn baps(rt: &impl Print) -> io::Result<()> {
     bin(rt, 0, 256, 0)?;
     bin(rt, 0, 257, 1)?;
     bin(rt, 0, 271, 1)?;
-    bin(rt, 0, 4294967295, 0)
+    bin(rt, 0, u32::MAX, 0)
 }
 
 // Exponent and bap, exponent and code, bap and code, all three.
 pub(crate) fn two_faults(rt: &impl Print) -> io::Result<()> {
     bin(rt, 25, 16, 0)?;
-    bin(rt, 4294967295, 4294967295, 0)?;
+    bin(rt, u32::MAX, u32::MAX, 0)?;
     bin(rt, 25, 6, 32)?;
     bin(rt, 25, 0, 1)?;
     bin(rt, 24, 16, 65536)?;
-    bin(rt, 24, 4294967295, 4294967295)?;
+    bin(rt, 24, u32::MAX, u32::MAX)?;
     bin(rt, 25, 16, 65536)?;
-    bin(rt, 4294967295, 4294967295, 4294967295)
+    bin(rt, u32::MAX, u32::MAX, u32::MAX)
 }

@@ -2,7 +2,7 @@
 ghost use Rattle.std.specs.Prelude.{◌≡◌, ◌<◌, ◌≤◌, length};
 
 use crate::bins::LARGEST;
-use crate::choice::plus;
+use bits::Refusal;
 use std::io;
 
 // How often the last code is taken, and how often the one past it is refused with 5.
@@ -14,11 +14,11 @@ pub struct Borders {
 
 // What is above 15 is no bap, and has no code above 0.
 fn largest_of(bap: u8) -> u16 {
-    if bap < 16 { LARGEST[bap as usize] } else { 0 }
+    LARGEST.get(usize::from(bap)).copied().unwrap_or(0)
 }
 
 // The answer of the call for a frame's copy.
-fn answer(sheet: &[u8], exps: &[u8], codes: &[u16]) -> u32
+fn answer_of(sheet: &[u8], exps: &[u8], codes: &[u16]) -> Result<(), Refusal>
     requires { length exps.now ≤ 4608 }
 {
     let mut flags = [0u8; 4608];
@@ -28,14 +28,24 @@ fn answer(sheet: &[u8], exps: &[u8], codes: &[u16]) -> u32
 }
 
 // The answer with another code at one place, where the own one is then put back.
-fn answer_with(sheet: &[u8], exps: &[u8], codes: &mut [u16], at: usize, code: u16) -> u32
+fn answer_with(
+    sheet: &[u8],
+    exps: &[u8],
+    codes: &mut [u16],
+    at: usize,
+    code: u16,
+) -> Result<(), Refusal>
     requires { (length exps.now ≤ 4608) × (at < length codes.old) }
 {
     let own = codes[at];
     codes[at] = code;
-    let refusal = answer(sheet, exps, codes);
+    let answer = answer_of(sheet, exps, codes);
     codes[at] = own;
-    refusal
+    answer
+}
+
+fn is_bad_code(answer: Result<(), Refusal>) -> bool {
+    answer == Err(Refusal::BadCode)
 }
 
 // At the first 37 bins.
@@ -48,8 +58,10 @@ pub(crate) fn borders_of(sheet: &[u8], exps: &[u8], bap: &[u8], codes: &mut [u16
     for i in 0..37 {
         let largest = largest_of(bap[i]);
         let past = largest.wrapping_add(1);
-        taken = plus(taken, answer_with(sheet, exps, codes, i, largest) == 0);
-        refused = plus(refused, answer_with(sheet, exps, codes, i, past) == 5);
+        let at_last = answer_with(sheet, exps, codes, i, largest);
+        let beyond = answer_with(sheet, exps, codes, i, past);
+        taken += u32::from(at_last.is_ok());
+        refused += u32::from(is_bad_code(beyond));
     }
     Borders { taken, refused }
 }

@@ -2,26 +2,20 @@
 // The frame is one under the sheet of three channels: exponents 12, codes 0.
 ghost use Rattle.std.specs.Prelude.{◌<◌, ◌≤◌, length};
 
-use crate::choice::{byte_if, code_if, length_if, plus};
 use crate::frames::sheet_of_three;
 use crate::show;
 use std::io;
 
 // The marks, 165 and 2: no flag and no level.
-fn changed_flags(flags: &[u8]) -> u32 {
-    let mut count = 0;
-    for i in 0..flags.len() {
-        count = plus(count, flags[i] != 165);
-    }
-    count
+fn changed_flags(flags: &[u8]) -> usize {
+    flags.iter().filter(|&&flag| flag != 165).count()
 }
 
-fn changed_levels(levels: &[f32]) -> u32 {
-    let mut count = 0;
-    for i in 0..levels.len() {
-        count = plus(count, show::pattern_of(levels[i]) != 0x40000000);
-    }
-    count
+fn changed_levels(levels: &[f32]) -> usize {
+    levels
+        .iter()
+        .filter(|&&level| show::pattern_of(level) != 0x40000000)
+        .count()
 }
 
 // The answer, and how many entries of each output are not what they were.
@@ -33,25 +27,32 @@ fn answer(
     flags: &mut [u8],
     levels: &mut [f32],
 ) -> io::Result<()> {
-    let refusal = reconstruct::reconstruct_body(sheet, exps, codes, flags, levels);
+    let answer = reconstruct::reconstruct_body(sheet, exps, codes, flags, levels);
     println!(rt;
-        ": {refusal} {} {}",
+        ": {} {} {}",
+        show::number_of(&answer),
         changed_flags(flags),
         changed_levels(levels)
     )
 }
 
-fn put(bytes: &mut [u8], at: usize, value: u8)
-    requires { at < length bytes.old }
-{
-    bytes[at] = value;
+// How many entries the four buffers of a call have.
+#[derive(Clone, Copy)]
+struct Sizes {
+    exps: usize,
+    codes: usize,
+    flags: usize,
+    levels: usize,
+    ghost held: { (exps ≤ 4609) × (codes ≤ 4609) × (flags ≤ 4609) × (levels ≤ 4609) },
 }
 
-fn put_code(codes: &mut [u16], at: usize, value: u16)
-    requires { at < length codes.old }
-{
-    codes[at] = value;
-}
+// Those of the sheet of three channels.
+const WHOLE: Sizes = Sizes {
+    exps: 4608,
+    codes: 4608,
+    flags: 4608,
+    levels: 4608,
+};
 
 // The frame with this exponent and this code at one place, in four buffers of these lengths.
 fn call(
@@ -60,75 +61,129 @@ fn call(
     at: usize,
     exponent: u8,
     code: u16,
-    e: usize,
-    c: usize,
-    f: usize,
-    l: usize,
+    sizes: Sizes,
 ) -> io::Result<()>
-    requires { (at < 4609) × (e ≤ 4609) × (c ≤ 4609) × (f ≤ 4609) × (l ≤ 4609) }
+    requires { at < 4609 }
 {
     let mut exps = [12u8; 4609];
     let mut codes = [0u16; 4609];
     let mut flags = [165u8; 4609];
     let mut levels = [2.0f32; 4609];
-    put(&mut exps, at, exponent);
-    put_code(&mut codes, at, code);
+    exps[at] = exponent;
+    codes[at] = code;
     answer(
         rt,
         sheet,
-        &exps[0..e],
-        &codes[0..c],
-        &mut flags[0..f],
-        &mut levels[0..l],
+        &exps[0..sizes.exps],
+        &codes[0..sizes.codes],
+        &mut flags[0..sizes.flags],
+        &mut levels[0..sizes.levels],
     )
 }
 
-// The faults of a call: a bit for each, in the order of their refusals.
-fn has(faults: u32, fault: u32) -> bool {
-    faults & fault != 0
+// The faults of a call, in the order of their refusals.
+#[derive(Clone, Copy)]
+enum Fault {
+    // Another version.
+    Version,
+    // csnroffst 64.
+    Offset,
+    // The first two records have each other's channel.
+    Order,
+    // One exponent short.
+    Length,
+    // An exponent above 24.
+    Exponent,
+    // A code that no bap here has.
+    Code,
 }
 
-// 1: another version; 2: csnroffst 64; 4: the first two records have each other's channel.
-fn sheet_with(faults: u32) -> [u8; 45] {
+// A set of them.
+#[derive(Clone, Copy)]
+struct Faults {
+    // Every set is counted through, and printed by its number: a bit for each fault.
+    number: u32,
+}
+
+impl Faults {
+    fn has(self, fault: Fault) -> bool {
+        let bit = match fault {
+            Fault::Version => 1,
+            Fault::Offset => 2,
+            Fault::Order => 4,
+            Fault::Length => 8,
+            Fault::Exponent => 16,
+            Fault::Code => 32,
+        };
+        self.number & bit != 0
+    }
+}
+
+fn sheet_with(faults: Faults) -> [u8; 45] {
     let mut sheet = sheet_of_three();
-    sheet[2] = byte_if(has(faults, 1), 0, 1);
-    sheet[11] = byte_if(has(faults, 2), 64, 16);
-    sheet[12] = byte_if(has(faults, 4), 1, 0);
-    sheet[23] = byte_if(has(faults, 4), 0, 1);
+    if faults.has(Fault::Version) {
+        sheet[2] = 0;
+    }
+    if faults.has(Fault::Offset) {
+        sheet[11] = 64;
+    }
+    if faults.has(Fault::Order) {
+        sheet[12] = 1;
+        sheet[23] = 0;
+    }
     sheet
 }
 
-// 8: one exponent short; 16: an exponent above 24; 32: a code that no bap here has.
-fn with_faults(rt: &impl Print, faults: u32) -> io::Result<()> {
+fn with_faults(rt: &impl Print, faults: Faults) -> io::Result<()> {
     let sheet = sheet_with(faults);
-    let exponent = byte_if(has(faults, 16), 25, 12);
-    let code = code_if(has(faults, 32), 65535, 0);
-    let e = length_if(has(faults, 8), 4607, 4608);
-    print!(rt; "faults {faults}")?;
-    call(rt, &sheet, 36, exponent, code, e, 4608, 4608, 4608)
+    let exponent = if faults.has(Fault::Exponent) { 25 } else { 12 };
+    let code = if faults.has(Fault::Code) { u16::MAX } else { 0 };
+    let sizes = Sizes {
+        exps: 4608 - usize::from(faults.has(Fault::Length)),
+        codes: 4608,
+        flags: 4608,
+        levels: 4608,
+    };
+    print!(rt; "faults {}", faults.number)?;
+    call(rt, &sheet, 36, exponent, code, sizes)
 }
 
 // Every set of faults: the first in the order counts.
 pub(crate) fn together(rt: &impl Print) -> io::Result<()> {
-    for faults in 0..64 {
-        with_faults(rt, faults)?;
+    for number in 0..64 {
+        with_faults(rt, Faults { number })?;
     }
     Ok(())
 }
 
 // Buffers of these lengths, with no other fault, and with an exponent and a code that are none.
-fn of_lengths(rt: &impl Print, e: usize, c: usize, f: usize, l: usize) -> io::Result<()>
-    requires { (e ≤ 4609) × (c ≤ 4609) × (f ≤ 4609) × (l ≤ 4609) }
+fn of_lengths(
+    rt: &impl Print,
+    exps: usize,
+    codes: usize,
+    flags: usize,
+    levels: usize,
+) -> io::Result<()>
+    requires { (exps ≤ 4609) × (codes ≤ 4609) × (flags ≤ 4609) × (levels ≤ 4609) }
 {
     let sheet = sheet_of_three();
-    show_lengths(rt, e, c, f, l)?;
-    call(rt, &sheet, 36, 12, 0, e, c, f, l)?;
-    show_lengths(rt, e, c, f, l)?;
-    call(rt, &sheet, 36, 25, 65535, e, c, f, l)
+    let sizes = Sizes {
+        exps,
+        codes,
+        flags,
+        levels,
+    };
+    show_lengths(rt, sizes)?;
+    call(rt, &sheet, 36, 12, 0, sizes)?;
+    show_lengths(rt, sizes)?;
+    call(rt, &sheet, 36, 25, u16::MAX, sizes)
 }
 
-fn show_lengths(rt: &impl Print, e: usize, c: usize, f: usize, l: usize) -> io::Result<()> {
-    print!(rt; "lengths {e} {c} {f} {l}")
+fn show_lengths(rt: &impl Print, sizes: Sizes) -> io::Result<()> {
+    print!(rt;
+        "lengths {} {} {} {}",
+        sizes.exps, sizes.codes, sizes.flags, sizes.levels
+    )
 }
 
 pub(crate) fn lengths(rt: &impl Print) -> io::Result<()> {
@@ -150,7 +205,7 @@ fn exponent(rt: &impl Print, at: usize, value: u8) -> io::Result<()>
 {
     let sheet = sheet_of_three();
     print!(rt; "exponent {at} {value}")?;
-    call(rt, &sheet, at, value, 0, 4608, 4608, 4608, 4608)
+    call(rt, &sheet, at, value, 0, WHOLE)
 }
 
 // A channel's part starts at 256 * (3 * block + channel).
@@ -211,21 +266,21 @@ fn code(rt: &impl Print, at: usize, value: u16) -> io::Result<()>
 {
     let sheet = sheet_of_three();
     print!(rt; "code {at} {value}")?;
-    call(rt, &sheet, at, 12, value, 4608, 4608, 4608, 4608)
+    call(rt, &sheet, at, 12, value, WHOLE)
 }
 
 // The first and the last bin of some parts, and the entry behind.
 pub(crate) fn codes(rt: &impl Print) -> io::Result<()> {
-    code(rt, 0, 65535)?;
-    code(rt, 72, 65535)?;
-    code(rt, 73, 65535)?;
-    code(rt, 256, 65535)?;
-    code(rt, 292, 65535)?;
-    code(rt, 293, 65535)?;
-    code(rt, 518, 65535)?;
-    code(rt, 519, 65535)?;
-    code(rt, 4352, 65535)?;
-    code(rt, 4358, 65535)?;
-    code(rt, 4359, 65535)?;
-    code(rt, 4607, 65535)
+    code(rt, 0, u16::MAX)?;
+    code(rt, 72, u16::MAX)?;
+    code(rt, 73, u16::MAX)?;
+    code(rt, 256, u16::MAX)?;
+    code(rt, 292, u16::MAX)?;
+    code(rt, 293, u16::MAX)?;
+    code(rt, 518, u16::MAX)?;
+    code(rt, 519, u16::MAX)?;
+    code(rt, 4352, u16::MAX)?;
+    code(rt, 4358, u16::MAX)?;
+    code(rt, 4359, u16::MAX)?;
+    code(rt, 4607, u16::MAX)
 }

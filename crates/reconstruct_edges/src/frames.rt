@@ -2,8 +2,8 @@
 ghost use Rattle.std.specs.Prelude.{◌≡◌, ◌<◌, ◌≤◌, length};
 
 use crate::borders::{borders_of, show_borders};
-use crate::choice::{byte_if, code_if};
 use crate::looking::{is_below, met_in, show_met};
+use crate::show;
 use std::io;
 
 // By its bits: both signs, and sizes from 1/2 on that fall by half about every third bin.
@@ -40,7 +40,7 @@ fn encode(rt: &impl Print, sheet: &[u8], n: usize, body: &mut [u8]) -> io::Resul
         &mut codes[0..n],
         body,
     );
-    print!(rt; " {}", answer.refusal)
+    print!(rt; " {}", show::number_of(&answer))
 }
 
 // What is read of a body, and the reader's answer.
@@ -57,7 +57,7 @@ fn read(
     ensures codes_len_unchanged { length codes.new ≡ length codes.old }
 {
     let answer = frame_reader::read_body(sheet, body, exps, bap, codes);
-    print!(rt; " {}", answer.refusal)
+    print!(rt; " {}", show::number_of(&answer))
 }
 
 // What stands from each end on is no exponent and no code, and is ignored.
@@ -67,9 +67,10 @@ fn spoil(ends: [usize; 3], exps: &mut [u8], codes: &mut [u16])
     ensures codes_len_unchanged { length codes.new ≡ length codes.old }
 {
     for i in 0..exps.len() {
-        let below = is_below(ends, i);
-        exps[i] = byte_if(below, exps[i], 255);
-        codes[i] = code_if(below, codes[i], 65535);
+        if !is_below(ends, i) {
+            exps[i] = 255;
+            codes[i] = u16::MAX;
+        }
     }
 }
 
@@ -86,7 +87,7 @@ fn reconstruct_read(
     ensures levels_len_unchanged { length levels.new ≡ length levels.old }
 {
     let answer = reconstruct::reconstruct_body(sheet, exps, codes, flags, levels);
-    print!(rt; " {answer}")
+    print!(rt; " {}", show::number_of(&answer))
 }
 
 // What was met in a copy.
@@ -199,13 +200,8 @@ pub(crate) fn three_channels(rt: &impl Print) -> io::Result<()> {
 
 // Its strategies are D25, D25, reuse, D45, D15, reuse; D45, D45, reuse, reuse, D25, reuse; D15, reuse, reuse, D15, D15, reuse.
 pub(crate) fn sheet_of_three() -> [u8; 45] {
-    let mut sheet = [0u8; 45];
-    slices::copy(
-        b"\x00\x2b\x01\x01\x02\x01\x02\x01\x01\x02\x04\x10\
+    *b"\x00\x2b\x01\x01\x02\x01\x02\x01\x01\x02\x04\x10\
         \x00\x49\x02\x02\x00\x03\x01\x00\x05\x04\x00\
         \x01\x25\x03\x03\x00\x00\x02\x00\x03\x02\x00\
-        \x02\x07\x01\x00\x00\x01\x01\x00\x07\x06\x00",
-        &mut sheet,
-    );
-    sheet
+        \x02\x07\x01\x00\x00\x01\x01\x00\x07\x06\x00"
 }

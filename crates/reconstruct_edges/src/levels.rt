@@ -2,7 +2,7 @@
 ghost use Rattle.std.specs.Prelude.{◌<◌};
 
 use crate::show;
-use reconstruct::{flag_of, level_of, reconstruct_mantissa};
+use reconstruct::{Reconstructed, reconstruct_mantissa};
 use std::io;
 
 // The digest of a row of bins is a number with a digit for each bin, in base 1000003 and modulo 2^33 + 17. That is a prime above every digit, so
@@ -15,18 +15,20 @@ const PRIME: u64 = 8589934609;
 fn digit(flag: u8, pattern: u32) -> u64
     ensures { result < 8589934592 }
 {
-    if flag == 0 {
-        return pattern as u64;
-    }
-    4294967296 + pattern as u64
+    let level = u64::from(pattern);
+    if flag == 0 { level } else { 4294967296 + level }
+}
+
+// A code that is refused counts as a silent bin.
+fn bin_of(exponent: u32, bap: u32, code: u32) -> Reconstructed {
+    reconstruct_mantissa(exponent, bap, code).unwrap_or(Reconstructed::Silent)
 }
 
 fn digit_of(exponent: u32, bap: u32, code: u32) -> u64
     ensures { result < 8589934592 }
 {
-    let answer = reconstruct_mantissa(exponent, bap, code);
-    let bin = answer.bin;
-    digit(flag_of(bin), show::pattern_of(level_of(bin)))
+    let bin = bin_of(exponent, bap, code);
+    digit(bin.flag(), show::pattern_of(bin.level()))
 }
 
 fn with_digit(digest: u64, digit: u64) -> u64
@@ -39,8 +41,7 @@ fn with_digit(digest: u64, digit: u64) -> u64
 // How many codes a bap has: the first one that is refused. None has more than 65,536.
 fn code_count(exponent: u32, bap: u32) -> u32 {
     for code in 0..65537 {
-        let answer = reconstruct_mantissa(exponent, bap, code);
-        if answer.refusal != 0 {
+        if reconstruct_mantissa(exponent, bap, code).is_err() {
             return code;
         }
     }
@@ -56,9 +57,8 @@ fn digest(exponent: u32, bap: u32, count: u32) -> u64 {
 }
 
 fn level(rt: &impl Print, exponent: u32, bap: u32, code: u32) -> io::Result<()> {
-    let answer = reconstruct_mantissa(exponent, bap, code);
-    let bin = answer.bin;
-    print!(rt; " {}", show::pattern_of(level_of(bin)))
+    let bin = bin_of(exponent, bap, code);
+    print!(rt; " {}", show::pattern_of(bin.level()))
 }
 
 // How many codes there are, the digest of what they stand for, and the level of the first, the middle and the last.

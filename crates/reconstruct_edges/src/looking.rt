@@ -1,9 +1,8 @@
 // What is met in the copy of a frame: each bin beside that bin alone.
 ghost use Rattle.std.specs.Prelude.{◌≡◌, length};
 
-use crate::choice::{one, plus};
 use crate::show;
-use reconstruct::{flag_of, level_of, reconstruct_mantissa};
+use reconstruct::reconstruct_mantissa;
 use std::io;
 
 // How many bins differ from the bin alone, and how many entries from an end on are not 0; how many bins are silent, and have a level.
@@ -22,14 +21,15 @@ pub(crate) fn is_below(ends: [usize; 3], i: usize) -> bool {
 
 // Whether an entry of the copy is not what its exponent, bap and code give alone.
 fn differs(exponent: u8, bap: u8, code: u16, flag: u8, level: f32) -> bool {
-    let answer = reconstruct_mantissa(exponent as u32, bap as u32, code as u32);
-    let bin = answer.bin;
-    (answer.refusal != 0)
-        | (flag != flag_of(bin))
-        | (show::pattern_of(level) != show::pattern_of(level_of(bin)))
+    match reconstruct_mantissa(u32::from(exponent), u32::from(bap), u32::from(code)) {
+        Ok(bin) => {
+            (flag != bin.flag()) | (show::pattern_of(level) != show::pattern_of(bin.level()))
+        }
+        Err(_) => true,
+    }
 }
 
-// One more entry was looked at.
+// One more entry was looked at. `wrapping_add`: a `+` would ask for a bound of each count through both functions.
 fn with_entry(
     met: Met,
     below: bool,
@@ -42,10 +42,10 @@ fn with_entry(
     let differing = differs(exponent, bap, code, flag, level);
     let some = (flag != 0) | (show::pattern_of(level) != 0);
     Met {
-        differing: plus(met.differing, below & differing),
-        beyond: plus(met.beyond, !below & some),
-        silent: plus(met.silent, below & (flag == 0)),
-        levels: plus(met.levels, below & (flag == 1)),
+        differing: met.differing.wrapping_add(u32::from(below & differing)),
+        beyond: met.beyond.wrapping_add(u32::from(!below & some)),
+        silent: met.silent.wrapping_add(u32::from(below & (flag == 0))),
+        levels: met.levels.wrapping_add(u32::from(below & (flag == 1))),
     }
 }
 
@@ -76,5 +76,9 @@ pub(crate) fn met_in(
 // Whether bins of both kinds were met, so that the copy was no empty one.
 pub(crate) fn show_met(rt: &impl Print, met: Met) -> io::Result<()> {
     print!(rt; ", {} {},", met.differing, met.beyond)?;
-    print!(rt; " {} {}", one(met.silent > 0), one(met.levels > 0))
+    print!(rt;
+        " {} {}",
+        u8::from(met.silent > 0),
+        u8::from(met.levels > 0)
+    )
 }

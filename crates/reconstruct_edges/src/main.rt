@@ -4,7 +4,6 @@
 
 pub mod bins;
 pub mod borders;
-pub mod choice;
 pub mod faults;
 pub mod frames;
 pub mod levels;

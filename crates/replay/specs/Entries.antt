@@ -19,22 +19,11 @@ code_in n part k = code_of (slice_index part k) (slice_index part (n + k))
 abbrev pub word_in : ℕ → List ℕ → ℕ → ℕ
 word_in n part k = word_of (slice_index part k) (slice_index part (n + k)) (slice_index part (2 * n + k)) (slice_index part (3 * n + k))
 
-unfoldable pub codes_in : ℕ → List ℕ → List ℕ
-codes_in n part = tab n (code_in n part)
-
-unfoldable pub words_in : ℕ → List ℕ → List ℕ
-words_in n part = tab n (word_in n part)
-
--- these codes are the ones of the part, and nothing is left over
-abbrev pub SameCodes : List ℕ → List ℕ → Type 0
-SameCodes codes part = (length part ≡ 2 * length codes) × (codes ≡ codes_in (length codes) part)
-
-abbrev pub SameWords : List ℕ → List ℕ → Type 0
-SameWords words part = (length part ≡ 4 * length words) × (words ≡ words_in (length words) part)
+-- these entries, of so many bytes each, are by their patterns the ones of the part, and nothing is left over
+abbrev pub SameEntries : {A : Type 0} → ℕ → (A → ℕ) → (ℕ → List ℕ → ℕ → ℕ) → List A → List ℕ → Type 0
+SameEntries width pattern entry_in entries part =
+    (length part ≡ width * length entries) × (map pattern entries ≡ tab (length entries) (entry_in (length entries) part))
 
 -- the bits of a level; what is not finite, which the list has nowhere, has those of one NaN
 unfoldable pub pattern_of : Float → ℕ
 pattern_of level = cond (finite level) (to_bits binary32 level) 4294967295
-
-abbrev pub SameLevels : List Float → List ℕ → Type 0
-SameLevels levels part = (length part ≡ 4 * length levels) × (map pattern_of levels ≡ words_in (length levels) part)

@@ -1,31 +1,33 @@
 -- Laws of comparing entry by entry: the entries before one are the same, and one that differs.
-use Rattle.std.specs.Prelude.{◌≡◌, ℕ, zero, suc, ◌+◌, ◌<◌, List, [], ◌∷◌, map, length, take, ◌≢◌, slice_index, slice_index_or, refl, Float}
-use Rattle.std.proofs.Common.{sym, ap, ◌∙◌, le_of_suc-le-suc, not-suc-le-zero, add-one, take-suc}
-use Rattle.std.specs.Float.{nan}
+use Rattle.std.specs.Prelude.{◌≡◌, ℕ, zero, suc, ◌+◌, ◌*◌, ◌/◌, ◌%◌, ◌<◌, List, [], ◌∷◌, map, length, take, ◌≢◌, slice_index, slice_index_or, refl}
+use Rattle.std.proofs.Common.{sym, ap, ◌∙◌, arith, add-one, take-suc}
+use Rattle.std.proofs.Math.Nat.{mul-div_cancel_left}
 use Rattle.std.proofs.lemmas.List.{length-map}
 use Rattle.bits.specs.Parts.{tab}
 use Rattle.bits.specs.PartsLaws.{joined-more, get_or-tab}
-use Rattle.replay.specs.Entries.{pattern_of}
 
--- one more entry is the same
-pub same_more : (f : ℕ → ℕ) (l : List ℕ) (i v : ℕ) → i < length l → take i l ≡ tab i f → slice_index l i ≡ v → v ≡ f i → take (i + 1) l ≡ tab (i + 1) f
-unfolding tab
-same_more f l i v h e p q = rw (joined-more i (λ i. f i ∷ []), add-one i, take-suc l i 0 h, e, p, q)
+-- so many entries of w bytes
+pub entries-whole : (l w n : ℕ) → 0 < w → l % w ≡ 0 → l / w ≡ n → l ≡ w * n
+entries-whole l w n h m d = let e : w * (l / w) ≡ l = omega arith in sym e ∙ ap (λ (k : ℕ). w * k) d
 
--- an entry that differs
-pub one-differs : (f : ℕ → ℕ) (l : List ℕ) (n i v : ℕ) → i < n → v ≡ f i → (slice_index l i ≢ v) → l ≢ tab n f
-one-differs f l n i v h q d e = d (ap (λ (t : List ℕ). slice_index t i) e ∙ get_or-tab n f i h ∙ sym q)
+pub entries-of : (l w n : ℕ) → 0 < w → l ≡ w * n → l / w ≡ n
+entries-of l w n h e = ap (λ (m : ℕ). m / w) e ∙ mul-div_cancel_left n h
 
--- the bits of one level among those of all
-pattern-at : (levels : List Float) (i : ℕ) → i < length levels → slice_index (map pattern_of levels) i ≡ pattern_of (slice_index_or levels i nan)
-pattern-at [] i h = absurd (not-suc-le-zero h)
-pattern-at (x ∷ xs) zero h = refl
-pattern-at (x ∷ xs) (suc i) h = pattern-at xs i (le_of_suc-le-suc h)
+module _ {A : Type 0} (pattern : A → ℕ) where
+  -- the pattern of one entry among those of all
+  pattern-at : (xs : List A) (i : ℕ) (d : A) → i < length xs → slice_index (map pattern xs) i ≡ pattern (slice_index_or xs i d)
+  pattern-at [] i d h = absurd (omega arith)
+  pattern-at (x ∷ xs) zero d h = refl
+  pattern-at (x ∷ xs) (suc i) d h = pattern-at xs i d (omega arith)
 
--- one more level is the same
-pub level-more : (f : ℕ → ℕ) (l : List Float) (i v : ℕ) → i < length l → take i (map pattern_of l) ≡ tab i f → pattern_of (slice_index_or l i nan) ≡ v → v ≡ f i → take (i + 1) (map pattern_of l) ≡ tab (i + 1) f
-level-more f l i v h e p q = same_more f (map pattern_of l) i v (rw (length-map l pattern_of) h) e (pattern-at l i h ∙ p) q
+  module _ (f : ℕ → ℕ) (xs : List A) (i : ℕ) (d : A) (h : i < length xs) where
+    -- one more entry is the same
+    pub same_more : take i (map pattern xs) ≡ tab i f → pattern (slice_index_or xs i d) ≡ f i → take (i + 1) (map pattern xs) ≡ tab (i + 1) f
+    unfolding tab
+    same_more e p =
+        let long : i < length (map pattern xs) = rw (length-map xs pattern) h in
+        rw (joined-more i (λ i. f i ∷ []), add-one i, take-suc (map pattern xs) i 0 long, e, pattern-at xs i d h, p)
 
--- a level that differs
-pub level-differs : (f : ℕ → ℕ) (l : List Float) (i v : ℕ) → i < length l → v ≡ f i → (pattern_of (slice_index_or l i nan) ≢ v) → map pattern_of l ≢ tab (length l) f
-level-differs f l i v h q d e = one-differs f (map pattern_of l) (length l) i v h q (λ p. d (sym (pattern-at l i h) ∙ p)) e
+    -- an entry that differs
+    pub one-differs : (pattern (slice_index_or xs i d) ≢ f i) → map pattern xs ≢ tab (length xs) f
+    one-differs d' e = d' (sym (pattern-at xs i d h) ∙ ap (λ (t : List ℕ). slice_index t i) e ∙ get_or-tab (length xs) f i h)

@@ -1,14 +1,17 @@
-// The allocation of one channel, from nine codes and up to eight segments.
+// The allocation of one channel, from nine codes and up to eight segments. allocation_edges has functions like these: each test program
+// stands alone.
+ghost use Rattle.std.specs.Prelude.{◌<◌};
+
 use crate::cases::Case;
-use crate::compare::{same_bytes, same_refusal};
-use crate::parts::at_most;
-use sheet::{BlockSet, ChannelRecord, Common, ExponentSet};
+use crate::compare::same_refusal;
+use elements::{BlockSet, ExponentSet, Segment};
+use sheet::{ChannelRecord, Common};
 
 // A value that is in no range stands where there is no byte, and in what an allocation does not look at.
 const NONE: u8 = 255;
 
 fn byte_at(bytes: &[u8], at: usize) -> u8 {
-    if at < bytes.len() { bytes[at] } else { NONE }
+    bytes.get(at).copied().unwrap_or(NONE)
 }
 
 // fscod, sdcycod, fdcycod, sgaincod, dbpbcod, floorcod, csnroffst; then fsnroffst and fgaincod of the channel.
@@ -26,60 +29,29 @@ fn common_of(codes: &[u8]) -> Common {
     }
 }
 
-// A segment has three bytes: its offst stands at 0, its len at 1, its ba at 2.
-fn of_segments(segments: &[u8], which: usize) -> [u8; 8] {
-    let k = which % 3;
-    [
-        byte_at(segments, k),
-        byte_at(segments, 3 + k),
-        byte_at(segments, 6 + k),
-        byte_at(segments, 9 + k),
-        byte_at(segments, 12 + k),
-        byte_at(segments, 15 + k),
-        byte_at(segments, 18 + k),
-        byte_at(segments, 21 + k),
-    ]
+// A segment has three bytes.
+fn segment_at(segments: &[u8], k: usize) -> Segment
+    requires { k < 8 }
+{
+    Segment {
+        offst: byte_at(segments, 3 * k),
+        len: byte_at(segments, 3 * k + 1),
+        ba: byte_at(segments, 3 * k + 2),
+    }
 }
 
 fn channel_of(codes: &[u8], segments: &[u8]) -> ChannelRecord {
-    let offst = of_segments(segments, 0);
-    let len = of_segments(segments, 1);
-    let ba = of_segments(segments, 2);
-    let blocks = [BlockSet {
-        set: ExponentSet::New(NONE),
-    }; 6];
     ChannelRecord {
         channel: NONE,
         end: NONE,
-        blocks: blocks,
+        blocks: [BlockSet {
+            set: ExponentSet::Reuse,
+        }; 6],
         fsnroffst: byte_at(codes, 7),
         fgaincod: byte_at(codes, 8),
         nseg: (segments.len() / 3 % 256) as u8,
-        offst: offst,
-        len: len,
-        ba: ba,
+        segments: std::array::from_fn(|k| segment_at(segments, k)),
     }
-}
-
-fn allocated(
-    case: Case,
-    codes: &[u8],
-    segments: &[u8],
-    exp: &[u8],
-    bap: &mut [u8],
-    left: &[u8],
-) -> bool {
-    let refusal = allocation::compute_bap(
-        exp,
-        case.first as usize,
-        common_of(codes),
-        channel_of(codes, segments),
-        bap,
-    );
-    if !same_refusal(refusal, case) {
-        return false;
-    }
-    same_bytes(bap, left)
 }
 
 pub(crate) fn compute_bap(
@@ -90,6 +62,13 @@ pub(crate) fn compute_bap(
     left: &[u8],
 ) -> bool {
     let mut bap = [165u8; 512];
-    let n = at_most(case.second as usize, 512);
-    allocated(case, codes, segments, exp, &mut bap[0..n], left)
+    let bap = &mut bap[..(case.second as usize).min(512)];
+    let answer = allocation::compute_bap(
+        exp,
+        case.first as usize,
+        &common_of(codes),
+        &channel_of(codes, segments),
+        bap,
+    );
+    same_refusal(answer, case) && &*bap == left
 }

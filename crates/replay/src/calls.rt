@@ -1,39 +1,114 @@
-// The public calls by the numbers that they have in the list.
+// The public calls, in the order of the numbers that they have in the list.
+ghost use Rattle.std.specs.Prelude.{◌<◌};
 
-pub const CHECK_SHEET: u32 = 0;
+use std::error::Error;
+use std::fmt;
 
-pub const EXTRACT_EXPONENT: u32 = 1;
+#[derive(Clone, Copy, Debug, PartialEq, Eq)]
+pub enum Call {
+    CheckSheet,
+    ExtractExponent,
+    PreprocessD15,
+    QuantiseExponentsToGrpsize,
+    NgrpsForStrategy,
+    WriteExponentsGrouped,
+    ReadExponentsGrouped,
+    PickStrategyForBlock,
+    SelectExpStrategiesPerEnd,
+    ComputeBap,
+    QuantiseMantissa,
+    WriteMantissaStream,
+    ReadMantissaStream,
+    MantissaBitsTotalEnds,
+    EncodeBody,
+    WriteBody,
+    ReadBody,
+    ReconstructMantissa,
+    ReconstructBody,
+}
 
-pub const PREPROCESS_D15: u32 = 2;
+// How many they are.
+pub const CALLS: usize = 19;
 
-pub const QUANTISE_EXPONENTS_TO_GRPSIZE: u32 = 3;
+// Each call, at its number.
+pub const ALL: [Call; CALLS] = [
+    Call::CheckSheet,
+    Call::ExtractExponent,
+    Call::PreprocessD15,
+    Call::QuantiseExponentsToGrpsize,
+    Call::NgrpsForStrategy,
+    Call::WriteExponentsGrouped,
+    Call::ReadExponentsGrouped,
+    Call::PickStrategyForBlock,
+    Call::SelectExpStrategiesPerEnd,
+    Call::ComputeBap,
+    Call::QuantiseMantissa,
+    Call::WriteMantissaStream,
+    Call::ReadMantissaStream,
+    Call::MantissaBitsTotalEnds,
+    Call::EncodeBody,
+    Call::WriteBody,
+    Call::ReadBody,
+    Call::ReconstructMantissa,
+    Call::ReconstructBody,
+];
 
-pub const NGRPS_FOR_STRATEGY: u32 = 4;
+impl Call {
+    // Its number, by which its tally is found.
+    pub(crate) fn index(self) -> usize
+        ensures { result < 19 }
+    {
+        self as usize
+    }
 
-pub const WRITE_EXPONENTS_GROUPED: u32 = 5;
+    fn name(self) -> &'static str {
+        match self {
+            Call::CheckSheet => "check_sheet",
+            Call::ExtractExponent => "extract_exponent",
+            Call::PreprocessD15 => "preprocess_d15",
+            Call::QuantiseExponentsToGrpsize => "quantise_exponents_to_grpsize",
+            Call::NgrpsForStrategy => "ngrps_for_strategy",
+            Call::WriteExponentsGrouped => "write_exponents_grouped",
+            Call::ReadExponentsGrouped => "read_exponents_grouped",
+            Call::PickStrategyForBlock => "pick_strategy_for_block",
+            Call::SelectExpStrategiesPerEnd => "select_exp_strategies_per_end",
+            Call::ComputeBap => "compute_bap",
+            Call::QuantiseMantissa => "quantise_mantissa",
+            Call::WriteMantissaStream => "write_mantissa_stream",
+            Call::ReadMantissaStream => "read_mantissa_stream",
+            Call::MantissaBitsTotalEnds => "mantissa_bits_total_ends",
+            Call::EncodeBody => "encode_body",
+            Call::WriteBody => "write_body",
+            Call::ReadBody => "read_body",
+            Call::ReconstructMantissa => "reconstruct_mantissa",
+            Call::ReconstructBody => "reconstruct_body",
+        }
+    }
+}
 
-pub const READ_EXPONENTS_GROUPED: u32 = 6;
+// By its name, as in the lines that are printed.
+impl fmt::Display for Call {
+    fn fmt<W: fmt::Write>(&self, f: &mut fmt::Formatter<W>) -> fmt::Result {
+        f.write_str(self.name())
+    }
+}
 
-pub const PICK_STRATEGY_FOR_BLOCK: u32 = 7;
+// A number that no call has.
+#[derive(Clone, Copy, Debug, PartialEq, Eq)]
+pub struct NoCall(pub u32);
 
-pub const SELECT_EXP_STRATEGIES_PER_END: u32 = 8;
+impl fmt::Display for NoCall {
+    fn fmt<W: fmt::Write>(&self, f: &mut fmt::Formatter<W>) -> fmt::Result {
+        write!(f, "no call has the number {}", self.0)
+    }
+}
 
-pub const COMPUTE_BAP: u32 = 9;
+impl Error for NoCall {}
 
-pub const QUANTISE_MANTISSA: u32 = 10;
+impl TryFrom<u32> for Call {
+    type Error = NoCall;
 
-pub const WRITE_MANTISSA_STREAM: u32 = 11;
-
-pub const READ_MANTISSA_STREAM: u32 = 12;
-
-pub const MANTISSA_BITS_TOTAL_ENDS: u32 = 13;
-
-pub const ENCODE_BODY: u32 = 14;
-
-pub const WRITE_BODY: u32 = 15;
-
-pub const READ_BODY: u32 = 16;
-
-pub const RECONSTRUCT_MANTISSA: u32 = 17;
-
-pub const RECONSTRUCT_BODY: u32 = 18;
+    fn try_from(number: u32) -> Result<Self, NoCall> {
+        ALL.get(number as usize).copied().ok_or(NoCall(number))
+    }
+}

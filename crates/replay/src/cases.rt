@@ -1,16 +1,15 @@
 // A case of the list: fourteen numbers, of which seven are the lengths of the parts behind them, then the parts.
 ghost use Rattle.std.specs.Prelude.{◌*◌, ◌<◌, ◌≤◌, length};
 
+use crate::calls::Call;
 use crate::parts::number_at;
 use crate::{
-    allocation_steps, calls, exponent_steps, frame_steps, mantissa_steps, reconstruct_steps,
-    sheet_steps,
+    allocation_steps, exponent_steps, frame_steps, mantissa_steps, reconstruct_steps, sheet_steps,
 };
 
 // Up to four arguments (an end, a span, a length, a pattern), then what is expected: the refusal and the value.
 #[derive(Clone, Copy)]
 pub struct Case {
-    pub call: u32,
     pub first: u32,
     pub second: u32,
     pub third: u32,
@@ -21,25 +20,10 @@ pub struct Case {
 
 // What came of a record of the list.
 #[derive(Clone, Copy)]
-pub struct Outcome {
-    pub state: u32,
-    pub call: usize,
-    pub same: bool,
-}
-
-pub const REPLAYED: u32 = 0;
-
-pub const ENDED: u32 = 1;
-
-pub const DAMAGED: u32 = 2;
-
-// There was no case.
-pub(crate) fn without_case(state: u32) -> Outcome {
-    Outcome {
-        state: state,
-        call: 0,
-        same: false,
-    }
+pub enum Outcome {
+    Replayed { call: Call, same: bool },
+    Ended,
+    Damaged,
 }
 
 // The bytes of the fourteen numbers.
@@ -49,7 +33,6 @@ fn case_of(bytes: &[u8]) -> Case
     requires { 56 ≤ length bytes.now }
 {
     Case {
-        call: number_at(bytes, 0),
         first: number_at(bytes, 32),
         second: number_at(bytes, 36),
         third: number_at(bytes, 40),
@@ -70,9 +53,11 @@ fn part_length(bytes: &[u8], part: usize) -> usize
 // The case is taken apart and replayed.
 pub(crate) fn replay(bytes: &[u8]) -> Outcome {
     if bytes.len() < NUMBERS {
-        return without_case(DAMAGED);
+        return Outcome::Damaged;
     }
-    let case = case_of(bytes);
+    let Ok(call) = Call::try_from(number_at(bytes, 0)) else {
+        return Outcome::Damaged;
+    };
     let a = NUMBERS + part_length(bytes, 1);
     let b = a + part_length(bytes, 2);
     let c = b + part_length(bytes, 3);
@@ -81,13 +66,11 @@ pub(crate) fn replay(bytes: &[u8]) -> Outcome {
     let f = e + part_length(bytes, 6);
     let g = f + part_length(bytes, 7);
     if bytes.len() != g {
-        return without_case(DAMAGED);
-    }
-    if calls::RECONSTRUCT_BODY < case.call {
-        return without_case(DAMAGED);
+        return Outcome::Damaged;
     }
     let same = is_same(
-        case,
+        call,
+        case_of(bytes),
         &bytes[NUMBERS..a],
         &bytes[a..b],
         &bytes[b..c],
@@ -96,15 +79,13 @@ pub(crate) fn replay(bytes: &[u8]) -> Outcome {
         &bytes[e..f],
         &bytes[f..g],
     );
-    Outcome {
-        state: REPLAYED,
-        call: case.call as usize,
-        same: same,
-    }
+    Outcome::Replayed { call, same }
 }
 
-// Whether the call gives what is expected.
+// Whether the call gives what is expected. A `match` and no table of closures: the list names its call by a number, and the steps differ in
+// what they take. The parts stay arguments: each call takes them as something else, and a struct would name them alike.
 fn is_same(
+    call: Call,
     case: Case,
     a: &[u8],
     b: &[u8],
@@ -114,71 +95,29 @@ fn is_same(
     f: &[u8],
     g: &[u8],
 ) -> bool {
-    if case.call == calls::CHECK_SHEET {
-        return sheet_steps::check_sheet(case, a);
+    match call {
+        Call::CheckSheet => sheet_steps::check_sheet(case, a),
+        Call::ExtractExponent => exponent_steps::extract_exponent(case),
+        Call::PreprocessD15 => exponent_steps::preprocess_d15(case, a, b),
+        Call::QuantiseExponentsToGrpsize => exponent_steps::quantise_exponents_to_grpsize(
+            case, a, b,
+        ),
+        Call::NgrpsForStrategy => exponent_steps::ngrps_for_strategy(case),
+        Call::WriteExponentsGrouped => exponent_steps::write_exponents_grouped(case, a, b),
+        Call::ReadExponentsGrouped => exponent_steps::read_exponents_grouped(case, a, b),
+        Call::PickStrategyForBlock => exponent_steps::pick_strategy_for_block(case, a),
+        Call::SelectExpStrategiesPerEnd => exponent_steps::select_exp_strategies_per_end(
+            case, a, b, c,
+        ),
+        Call::ComputeBap => allocation_steps::compute_bap(case, a, b, c, d),
+        Call::QuantiseMantissa => mantissa_steps::quantise_mantissa(case),
+        Call::WriteMantissaStream => mantissa_steps::write_mantissa_stream(case, a, b, c),
+        Call::ReadMantissaStream => mantissa_steps::read_mantissa_stream(case, a, b, c),
+        Call::MantissaBitsTotalEnds => mantissa_steps::mantissa_bits_total_ends(case, a, b, c),
+        Call::EncodeBody => frame_steps::encode_body(case, a, b, c, d, e, f, g),
+        Call::WriteBody => frame_steps::write_body(case, a, b, c, d, e),
+        Call::ReadBody => frame_steps::read_body(case, a, b, c, d, e, f),
+        Call::ReconstructMantissa => reconstruct_steps::reconstruct_mantissa(case, a, b),
+        Call::ReconstructBody => reconstruct_steps::reconstruct_body(case, a, b, c, d, e),
     }
-    if case.call == calls::SELECT_EXP_STRATEGIES_PER_END {
-        return exponent_steps::select_exp_strategies_per_end(case, a, b, c);
-    }
-    if case.call < calls::COMPUTE_BAP {
-        return exponent_step(case, a, b);
-    }
-    if case.call == calls::COMPUTE_BAP {
-        return allocation_steps::compute_bap(case, a, b, c, d);
-    }
-    if case.call < calls::ENCODE_BODY {
-        return mantissa_step(case, a, b, c);
-    }
-    if case.call == calls::ENCODE_BODY {
-        return frame_steps::encode_body(case, a, b, c, d, e, f, g);
-    }
-    if case.call == calls::WRITE_BODY {
-        return frame_steps::write_body(case, a, b, c, d, e);
-    }
-    if case.call == calls::READ_BODY {
-        return frame_steps::read_body(case, a, b, c, d, e, f);
-    }
-    reconstruct_step(case, a, b, c, d, e)
-}
-
-fn exponent_step(case: Case, a: &[u8], b: &[u8]) -> bool {
-    if case.call == calls::EXTRACT_EXPONENT {
-        return exponent_steps::extract_exponent(case);
-    }
-    if case.call == calls::PREPROCESS_D15 {
-        return exponent_steps::preprocess_d15(case, a, b);
-    }
-    if case.call == calls::QUANTISE_EXPONENTS_TO_GRPSIZE {
-        return exponent_steps::quantise_exponents_to_grpsize(case, a, b);
-    }
-    if case.call == calls::NGRPS_FOR_STRATEGY {
-        return exponent_steps::ngrps_for_strategy(case);
-    }
-    if case.call == calls::WRITE_EXPONENTS_GROUPED {
-        return exponent_steps::write_exponents_grouped(case, a, b);
-    }
-    if case.call == calls::READ_EXPONENTS_GROUPED {
-        return exponent_steps::read_exponents_grouped(case, a, b);
-    }
-    exponent_steps::pick_strategy_for_block(case, a)
-}
-
-fn mantissa_step(case: Case, a: &[u8], b: &[u8], c: &[u8]) -> bool {
-    if case.call == calls::QUANTISE_MANTISSA {
-        return mantissa_steps::quantise_mantissa(case);
-    }
-    if case.call == calls::WRITE_MANTISSA_STREAM {
-        return mantissa_steps::write_mantissa_stream(case, a, b, c);
-    }
-    if case.call == calls::READ_MANTISSA_STREAM {
-        return mantissa_steps::read_mantissa_stream(case, a, b, c);
-    }
-    mantissa_steps::mantissa_bits_total_ends(case, a, b, c)
-}
-
-fn reconstruct_step(case: Case, a: &[u8], b: &[u8], c: &[u8], d: &[u8], e: &[u8]) -> bool {
-    if case.call == calls::RECONSTRUCT_MANTISSA {
-        return reconstruct_steps::reconstruct_mantissa(case, a, b);
-    }
-    reconstruct_steps::reconstruct_body(case, a, b, c, d, e)
 }

@@ -1,57 +1,96 @@
 // What a call gave beside what the list has.
-ghost use Rattle.std.specs.Prelude.{◌≡◌, true, ◌&&◌, ◌==◌};
-ghost use Rattle.replay.specs.Entries.{SameCodes, SameWords, SameLevels, pattern_of};
+ghost use Rattle.std.specs.Prelude.{◌≡◌, true, ◌&&◌, ◌==◌, ℕ, ◌*◌, eqb, ◌<◌, List, length};
+ghost use Rattle.bits.specs.Answer.{given, number};
+ghost use Rattle.replay.specs.Entries.{SameEntries, code_in, word_in, pattern_of};
 
 use crate::cases::Case;
-use crate::parts::{code_of, word_of};
-use bits::Answer;
-use frame::FrameAnswer;
+use crate::parts::{code_at, word_at};
+use bits::Refusal;
 
-// Whether these bytes are the ones of the part.
-pub(crate) fn same_bytes(bytes: &[u8], part: &[u8]) -> bool
-    ensures { (result ≡ true → bytes.now ≡ part.now) × (bytes.now ≡ part.now → result ≡ true) }
-{
-    bytes == part
+// What a part of the list has entries of: how many bytes an entry has there, and what of it is compared.
+pub(crate) trait Entry: Copy {
+    ghost width: { ℕ };
+
+    ghost pattern: { Self → ℕ };
+
+    ghost entry_in: { ℕ → List ℕ → ℕ → ℕ };
+
+    // The bytes of an entry.
+    fn bytes() -> usize
+        ensures { (result ≡ width) × (0 < result) };
+
+    // Whether it is the entry i of n.
+    fn is_at(self, part: &[u8], n: usize, i: usize) -> bool
+        requires { (i < n) × (length part.now ≡ width * n) }
+        ensures { result ≡ eqb (pattern self) (entry_in n part.now i) };
 }
 
-// Whether these codes are the ones of the part.
-pub(crate) fn same_codes(codes: &[u16], part: &[u8]) -> bool
-    ensures { (result ≡ true → SameCodes codes.now part.now) × (SameCodes codes.now part.now → result ≡ true) }
-{
-    let n = codes.len();
-    if part.len() % 2 != 0 {
-        return false;
+impl Entry for u16 {
+    ghost width = { 2 };
+
+    ghost pattern = { λ code. code };
+
+    ghost entry_in = { code_in };
+
+    fn bytes() -> usize {
+        2
     }
-    if part.len() / 2 != n {
-        return false;
+
+    fn is_at(self, part: &[u8], n: usize, i: usize) -> bool {
+        self == code_at(part, n, i)
     }
-    let mut i = 0;
-    while i < n {
-        if codes[i] != code_of(part[i], part[n + i]) {
-            return false;
-        }
-        i += 1;
-    }
-    true
 }
 
-// Whether these counts are the ones of the part.
-pub(crate) fn same_counts(counts: &[u32], part: &[u8]) -> bool
-    ensures { (result ≡ true → SameWords counts.now part.now) × (SameWords counts.now part.now → result ≡ true) }
+impl Entry for u32 {
+    ghost width = { 4 };
+
+    ghost pattern = { λ count. count };
+
+    ghost entry_in = { word_in };
+
+    fn bytes() -> usize {
+        4
+    }
+
+    fn is_at(self, part: &[u8], n: usize, i: usize) -> bool {
+        self == word_at(part, n, i)
+    }
+}
+
+// A level is compared bit for bit.
+impl Entry for f32 {
+    ghost width = { 4 };
+
+    ghost pattern = { pattern_of };
+
+    ghost entry_in = { word_in };
+
+    fn bytes() -> usize {
+        4
+    }
+
+    fn is_at(self, part: &[u8], n: usize, i: usize) -> bool {
+        pattern_of(self) == word_at(part, n, i)
+    }
+}
+
+// Whether these entries are the ones of the part, and nothing is left over. `is_at` takes the entry's place, so `zip` and `all` would need
+// the same index.
+pub(crate) fn same_entries<T: Entry>(entries: &[T], part: &[u8]) -> bool
+    ensures { (result ≡ true → SameEntries T.width T.pattern T.entry_in entries.now part.now) × (SameEntries T.width T.pattern T.entry_in entries.now part.now → result ≡ true) }
 {
-    let n = counts.len();
-    if part.len() % 4 != 0 {
+    let n = entries.len();
+    let width = T::bytes();
+    if part.len() % width != 0 {
         return false;
     }
-    if part.len() / 4 != n {
+    if part.len() / width != n {
         return false;
     }
-    let mut i = 0;
-    while i < n {
-        if counts[i] != word_of(part[i], part[n + i], part[2 * n + i], part[3 * n + i]) {
+    for i in 0..n {
+        if !entries[i].is_at(part, n, i) {
             return false;
         }
-        i += 1;
     }
     true
 }
@@ -61,59 +100,24 @@ fn pattern_of(level: f32) -> u32
     ensures { result ≡ pattern_of level }
 {
     if shaping::is_finite(level) {
-        return f32::to_bits(level);
+        return level.to_bits();
     }
     0xffffffff
 }
 
-// Whether these levels are the ones of the part, bit for bit.
-pub(crate) fn same_levels(levels: &[f32], part: &[u8]) -> bool
-    ensures { (result ≡ true → SameLevels levels.now part.now) × (SameLevels levels.now part.now → result ≡ true) }
-{
-    let n = levels.len();
-    if part.len() % 4 != 0 {
-        return false;
-    }
-    if part.len() / 4 != n {
-        return false;
-    }
-    let mut i = 0;
-    while i < n {
-        let word = word_of(part[i], part[n + i], part[2 * n + i], part[3 * n + i]);
-        if pattern_of(levels[i]) != word {
-            return false;
-        }
-        i += 1;
-    }
-    true
-}
-
 // The refusal alone.
-pub(crate) fn same_refusal(refusal: u32, case: Case) -> bool
-    ensures { result ≡ (refusal == case.refusal) }
+pub(crate) fn same_refusal<T: Copy>(answer: Result<T, Refusal>, case: Case) -> bool
+    ensures { result ≡ (number answer == case.refusal) }
 {
-    refusal == case.refusal
+    match answer {
+        Ok(_) => case.refusal == 0,
+        Err(refusal) => case.refusal == refusal.number(),
+    }
 }
 
 // The refusal and the value.
-pub(crate) fn same_answer(answer: Answer, case: Case) -> bool
-    ensures { result ≡ (answer.refusal == case.refusal) && (answer.value == case.value) }
+pub(crate) fn same_answer(answer: Result<u32, Refusal>, case: Case) -> bool
+    ensures { result ≡ (number answer == case.refusal) && (given answer == case.value) }
 {
-    (answer.refusal == case.refusal) & (answer.value == case.value)
-}
-
-// The refusal and the bits of the body.
-pub(crate) fn same_frame_answer(answer: FrameAnswer, case: Case) -> bool
-    ensures { result ≡ (answer.refusal == case.refusal) && (answer.bits == case.value) }
-{
-    (answer.refusal == case.refusal) & (answer.bits == case.value)
-}
-
-// The twelve counts where the list has them.
-pub(crate) fn same_frame_counts(answer: FrameAnswer, part: &[u8]) -> bool {
-    if part.len() == 0 {
-        return true;
-    }
-    let counts = answer.counts;
-    same_counts(&counts, part)
+    same_refusal(answer, case) & (answer.unwrap_or(0) == case.value)
 }

@@ -17,13 +17,14 @@ pub mod reading;
 pub mod reconstruct_steps;
 pub mod sheet_steps;
 
+use calls::CALLS;
+use lines::Tally;
 use std::io;
 
 fn main(rt: HostRuntime) -> io::Result<()> {
-    let mut ran = [0u32; 19];
-    let mut differed = [0u32; 19];
-    let whole = reading::each_case(&mut rt.reader(), &mut ran, &mut differed)?;
-    lines::all(&rt, ran, differed)?;
+    let mut tallies = [Tally::default(); CALLS];
+    let whole = reading::each_case(&mut rt.reader(), &mut tallies)?;
+    lines::all(&rt, &tallies)?;
     if !whole {
         lines::damaged(&rt)?;
     }

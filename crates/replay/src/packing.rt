@@ -4,12 +4,6 @@ ghost use Rattle.std.specs.Prelude.{◌≤◌, length};
 // A first byte below this stands before bytes as they are, another before one that is repeated.
 const REPEATED: usize = 128;
 
-fn wide(x: u8) -> usize
-    ensures { result ≤ 255 }
-{
-    x as usize
-}
-
 // How many bytes stand behind a run's first one.
 fn bytes_behind(first: usize) -> usize
     requires { first ≤ 255 }
@@ -33,29 +27,25 @@ fn bytes_meant(first: usize) -> usize
 // As many bytes as there are places are copied; otherwise the first is repeated.
 fn spread(bytes: &[u8], places: &mut [u8]) {
     if bytes.len() == places.len() {
-        slices::copy(bytes, places);
-        return;
-    }
-    if bytes.len() != 0 {
-        slices::fill(places, bytes[0]);
+        places.copy_from_slice(bytes);
+    } else if let Some(first) = bytes.first() {
+        places.fill(*first);
     }
 }
 
-// Whether the packed bytes stand for as many bytes as there are places, which then hold them.
+// Whether the packed bytes stand for as many bytes as there are places, which then hold them. How far a run goes is in its first byte, so the
+// loop is a `while`.
 pub(crate) fn unpack(packed: &[u8], plain: &mut [u8]) -> bool
     requires { (length packed.now ≤ 24576) × (length plain.old ≤ 81920) }
 {
     let mut at = 0;
     let mut to = 0;
     while at < packed.len() {
-        let first = wide(packed[at]);
+        let first = usize::from(packed[at]);
         let start = at + 1;
         let behind = start + bytes_behind(first);
         let end = to + bytes_meant(first);
-        if packed.len() < behind {
-            return false;
-        }
-        if plain.len() < end {
+        if packed.len() < behind || plain.len() < end {
             return false;
         }
         spread(&packed[start..behind], &mut plain[to..end]);

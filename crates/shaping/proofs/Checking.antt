@@ -3,13 +3,13 @@ use mathlib.Core.Path.{◌≡◌, refl, sym, ◌∙◌}
 use mathlib.Core.Bool.{Bool, true, false, ◌&&◌, ◌||◌}
 use mathlib.Core.List.{List, [], ◌∷◌}
 use Prim.Native.Nat.{ℕ, zero, suc, ◌+◌, ◌-◌, ◌%◌, ◌≤◌, ◌<◌, min}
-use native.Mathlib.Decide.{dec_le, dec_lt}
+use native.Mathlib.Decide.{dec_lt}
 use native.Mathlib.Nat.{zero-mod, mod-lt, mod-eq_of_lt, mod_self, suc-mod}
 use native.Mathlib.Omega.{arith}
 use lib.Dec.{leb, eqb}
 use lib.ListN.{length, drop, get_or, drop_of_length-le}
 use lib.Seq.{drop-cons}
-use borrow.Author.Tests.{le-leb, lt-leb, eq-eqb, ne_eqb, leb-true, eqb-true}
+use borrow.Author.Tests.{le-leb, eq-eqb, ne_eqb, leb-true, eqb-true}
 use Rattle.bits.specs.Tests.{both}
 use Rattle.shaping.specs.Shaped.{follows, shaped_for}
 
@@ -21,26 +21,6 @@ follow place p x = leb x (p + 2) && (leb p (x + 2) && (leb x 24 && (eqb place 0 
 abbrev pub left : ℕ → ℕ → ℕ
 left g zero = 0
 left g (suc k) = g - suc k
-
--- ---- the test of one bin, as the code makes it
-
-nothing-apart : (p x place d m : ℕ) → d ≡ (p - x) + (x - p) → m ≡ min d place → eqb m 0 ≡ (eqb place 0 || eqb x p)
-nothing-apart p x place d m e f = go (dec_le place 0) (dec_le d 0)
-  where
-    go : Dec (place ≤ 0) → Dec (d ≤ 0) → eqb m 0 ≡ (eqb place 0 || eqb x p)
-    go (yes a) b = rw (eq-eqb m 0 (omega (arith, a, f)), eq-eqb place 0 (omega (arith, a)))
-    go (no a) (yes b) =
-        rw (eq-eqb m 0 (omega (arith, b, f)), ne_eqb place 0 (λ q. omega (arith, a, q)), eq-eqb x p (omega (arith, b, e)))
-    go (no a) (no b) =
-        rw (ne_eqb m 0 (λ q. omega (arith, a, b, f, q)), ne_eqb place 0 (λ q. omega (arith, a, q)), ne_eqb x p (λ q. omega (arith, b, e, q)))
-
-pub follow-is : (p x place d m : ℕ) → d ≡ (p - x) + (x - p) → m ≡ min d place → (leb d 2 && (leb x 24 && eqb m 0)) ≡ follow place p x
-follow-is p x place d m e f = rw (nothing-apart p x place d m e f) (go (dec_le x (p + 2)) (dec_le p (x + 2)))
-  where
-    go : Dec (x ≤ p + 2) → Dec (p ≤ x + 2) → (leb d 2 && (leb x 24 && (eqb place 0 || eqb x p))) ≡ follow place p x
-    go (yes a) (yes b) = rw (le-leb d 2 (omega (arith, a, b, e)), le-leb x (p + 2) a, le-leb p (x + 2) b)
-    go (yes a) (no b) = rw (lt-leb d 2 (omega (arith, b, e)), le-leb x (p + 2) a, lt-leb p (x + 2) (omega (arith, b)))
-    go (no a) b = rw (lt-leb d 2 (omega (arith, a, e)), lt-leb x (p + 2) (omega (arith, a)))
 
 -- ---- one bin more
 

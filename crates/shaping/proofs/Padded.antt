@@ -1,14 +1,14 @@
 -- Exponents among bins that set no limit: their entries, and how the code's buffers come to hold them.
-use mathlib.Core.Path.{◌≡◌, refl, ap, ◌∙◌}
+use mathlib.Core.Path.{◌≡◌, refl, sym, ap, ◌∙◌}
 use mathlib.Core.List.{List, ◌∷◌, ◌++◌}
 use Prim.Native.Nat.{ℕ, zero, suc, ◌+◌, ◌-◌, ◌≤◌, ◌<◌}
 use native.Mathlib.Omega.{arith}
 use native.Mathlib.Numerals.{unary_clauses}
 use native.Mathlib.Decide.{dec_lt}
 use lib.ListN.{length, take, drop, get_or, length-append, length-drop, length-replicate, get_or-replicate, get_or-append, get_or-eq_default}
-use lib.Seq.{get_or-append-add, take-append-add, length-take-le}
+use lib.Seq.{get_or-append-add, take-append-add, length-take-le, take-length}
 use Rattle.bits.specs.Parts.{tab}
-use Rattle.bits.specs.PartsLaws.{placed}
+use Rattle.bits.specs.PartsLaws.{placed, tab-list, tab-cong}
 use Rattle.shaping.specs.Reach.{free, padded}
 
 length-free : (k : ℕ) → length (free k) ≡ k
@@ -81,3 +81,8 @@ padded-most k xs m t = go (dec_lt t k) (dec_lt (t - k) (length xs)) (dec_lt (t -
 -- what a loop leaves in the w entries from a on, by their number
 pub part-tab : (a w n : ℕ) (l ys : List ℕ) (f : ℕ → ℕ) → a + w ≤ length l → w ≡ n → ys ≡ tab (length (take w (drop a l))) f → ys ≡ tab n f
 part-tab a w n l ys f h e q = rw (length-take-le w (drop a l) (rw length-drop (omega arith)), e) at q
+
+-- a list is known by its entries
+pub tabbed : (f : ℕ → ℕ) (l : List ℕ) (n : ℕ) → length l ≡ n → ((i : ℕ) → i < n → get_or l i 0 ≡ f i) → l ≡ tab n f
+tabbed f l n e h =
+    sym (take-length l) ∙ ap (λ (m : ℕ). take m l) e ∙ sym (tab-list 0 l n (omega arith)) ∙ tab-cong (λ i. get_or l i 0) f n h

@@ -1,13 +1,14 @@
 -- Laws of shaped exponents: the test holds exactly where they are shaped; none is above 24, as allocation and mantissas ask; and what
 -- document 01, "Exponents", and document 02, W4, say that the accepted calls leave.
-use Rattle.std.specs.Prelude.{◌≡◌, refl, Bool, true, false, cond, List, [], ◌∷◌, ◌⊎◌, ℕ, zero, suc, ◌+◌, ◌-◌, ◌≤◌, leb, eqb, length, get_or}
+use Rattle.std.specs.Prelude.{◌≡◌, refl, true, List, [], ◌∷◌, ◌⊎◌, ℕ, zero, suc, ◌+◌, ◌-◌, ◌≤◌, leb, eqb, length, get_or, Result, Ok, Err}
 use Rattle.std.proofs.Common.{⊎_elim, arith, leb-true, eqb-true, le-leb, eq-eqb}
-use Rattle.bits.specs.Refusal as refusal
+use Rattle.bits.specs.Answer.{kept}
+use Rattle.bits.specs.declared.refusal.Refusal.{Refusal}
 use Rattle.bits.specs.Tests.{both}
 use Rattle.shaping.specs.Shaped.{follows, shaped_for}
 use Rattle.shaping.specs.D15.{d15}
 use Rattle.shaping.specs.Spans.{spanned}
-use Rattle.shaping.specs.Passes.{is_span, preprocess_refusal, preprocessed, quantise_refusal, quantised}
+use Rattle.shaping.specs.Passes.{is_span, preprocess_check, preprocessed, quantise_check, quantised}
 use Rattle.shaping.specs.Greatest.{Below, Greatest, Follows, ShapedFrom, Shaped}
 use Rattle.shaping.specs.GreatestLaws.{greatest-unique, below_at, below-refl}
 use Rattle.shaping.specs.PassLaws.{limited-greatest}
@@ -115,17 +116,17 @@ spanned-below (suc h) [] = tt
 spanned-below (suc h) (x ∷ []) = (omega arith, tt)
 spanned-below (suc h) (x ∷ y ∷ r) = (shared-greatest 15 (suc h) 0 (x ∷ y ∷ r) (omega arith)).below
 
-below-either : (t : Bool) (zs xs : List ℕ) → Below zs xs → Below (cond t zs xs) xs
-below-either true zs xs b = b
-below-either false zs xs b = below-refl xs
+below-either : (t : Result Unit Refusal) (zs xs : List ℕ) → Below zs xs → Below (kept t zs xs) xs
+below-either (Ok _) zs xs b = b
+below-either (Err _) zs xs b = below-refl xs
 
 preprocessed-below : (xs : List ℕ) → Below (preprocessed xs) xs
 unfolding preprocessed
-preprocessed-below xs = below-either (eqb (preprocess_refusal xs) refusal.accepted) (d15 xs) xs (d15-greatest xs).below
+preprocessed-below xs = below-either (preprocess_check xs) (d15 xs) xs (d15-greatest xs).below
 
 quantised-below : (span : ℕ) (xs : List ℕ) → Below (quantised span xs) xs
 unfolding quantised
-quantised-below span xs = below-either (eqb (quantise_refusal span xs) refusal.accepted) (spanned (span - 1) xs) xs (spanned-below (span - 1) xs)
+quantised-below span xs = below-either (quantise_check span xs) (spanned (span - 1) xs) xs (spanned-below (span - 1) xs)
 
 pub length-preprocessed : (xs : List ℕ) → length (preprocessed xs) ≡ length xs
 length-preprocessed xs = (below_at (preprocessed xs) xs (preprocessed-below xs)).0

@@ -43,21 +43,13 @@ merged-same h (suc j) v x v' j' r p q w = rw (q, w, sub-one)
 
 -- ---- the least of a span
 
-pub least_more : (e : List ℕ) (g j m k v : ℕ) → least j m (drop k e) ≡ g → v ≡ min m (get_or e k 0) → 0 < j → k < length e
-    → least (j - 1) v (drop (k + 1) e) ≡ g
+pub least_more : (e : List ℕ) (g j m k v j' k' : ℕ) → least j m (drop k e) ≡ g → v ≡ min m (get_or e k 0) → j ≡ suc j' → k' ≡ suc k → k < length e
+    → least j' v (drop k' e) ≡ g
 unfolding least
-least_more e g zero m k v q w p h = absurd (omega arith)
-least_more e g (suc j) m k v q w p h = rw (w, sub-one, add-one) (rw (drop-cons e k 0 h) at q)
+least_more e g j m k v j' k' q w p n h = rw (w, n) (rw (p, drop-cons e k 0 h) at q)
 
-least-nil : (j m : ℕ) → least j m [] ≡ m
+-- none of them is left, or the list has ended
+pub least-over : (e : List ℕ) (g j m k : ℕ) → least j m (drop k e) ≡ g → (0 < j → length e ≤ k) → m ≡ g
 unfolding least
-least-nil zero m = refl
-least-nil (suc j) m = refl
-
-pub least-end : (e : List ℕ) (g j m k : ℕ) → least j m (drop k e) ≡ g → length e ≤ k → m ≡ g
-least-end e g j m k q h = sym (least-nil j m) ∙ (rw (drop_of_length-le e h) at q)
-
-pub least-none : (e : List ℕ) (g j m k : ℕ) → least j m (drop k e) ≡ g → j ≤ 0 → m ≡ g
-unfolding least
-least-none e g zero m k q h = q
-least-none e g (suc j) m k q h = absurd (omega arith)
+least-over e g zero m k q h = q
+least-over e g (suc j) m k q h = rw (drop_of_length-le e (h (omega arith))) at q

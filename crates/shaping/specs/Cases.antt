@@ -1,9 +1,8 @@
 -- The starred cases of document 01, "Edges", that are exponents', the one that document 02, W4, changes among them, and the smallest inputs where
 -- W4 ends equality with the Rust: the definitions compute them.
-use Rattle.std.specs.Prelude.{◌≡◌, refl, false, [], ◌∷◌, map, pos, negsuc}
+use Rattle.std.specs.Prelude.{◌≡◌, refl, false, [], ◌∷◌, map, pos, negsuc, Ok, Err}
 use Rattle.std.specs.Float.{nan, inf, fin}
-use Rattle.bits.specs.Answer.{gives, refused}
-use Rattle.bits.specs.Refusal as refusal
+use Rattle.bits.specs.declared.refusal.Refusal.TheVariants as refusal
 use Rattle.shaping.specs.Extract.{extracted}
 use Rattle.shaping.specs.Groups.{groups_answer}
 use Rattle.shaping.specs.D15.{backward, forward, limited}
@@ -38,13 +37,13 @@ unfolding rust_spanned led forward_spans lower_spans lacks merged least
 short-lasts-of-the-rust = (refl, refl)
 
 -- D15, D25 and D45 at the ends 253 and 40
-pub groups-at-ends : (map (groups_answer 253) (1 ∷ 2 ∷ 4 ∷ []) ≡ gives 84 ∷ gives 42 ∷ gives 21 ∷ [])
-    × (map (groups_answer 40) (1 ∷ 2 ∷ 4 ∷ []) ≡ gives 13 ∷ gives 7 ∷ gives 4 ∷ [])
+pub groups-at-ends : (map (groups_answer 253) (1 ∷ 2 ∷ 4 ∷ []) ≡ Ok 84 ∷ Ok 42 ∷ Ok 21 ∷ [])
+    × (map (groups_answer 40) (1 ∷ 2 ∷ 4 ∷ []) ≡ Ok 13 ∷ Ok 7 ∷ Ok 4 ∷ [])
 unfolding groups_answer
 groups-at-ends = (refl, refl)
 
 -- 2^-10 - 2^-34, 2^-25 and 1; what is not finite is refused
 pub exponents-of : map extracted (fin false 16777215 (negsuc 33) ∷ fin false 1 (negsuc 24) ∷ fin false 1 (pos 0) ∷ inf false ∷ nan ∷ [])
-    ≡ gives 10 ∷ gives 24 ∷ gives 0 ∷ refused refusal.not_finite ∷ refused refusal.not_finite ∷ []
+    ≡ Ok 10 ∷ Ok 24 ∷ Ok 0 ∷ Err refusal.NotFinite ∷ Err refusal.NotFinite ∷ []
 unfolding extracted
 exponents-of = refl

@@ -1,14 +1,14 @@
 -- The exponent is A/52's (7.1): a coefficient is mantissa × 2^-exponent with the mantissa's size from 1/2 up to 1, wherever 0..24 allow it.
 -- |x| is num x / den x, in whole numbers.
-use Rattle.std.specs.Prelude.{◌≡◌, Bool, true, false, not, cond, ℕ, suc, ◌+◌, ◌-◌, ◌*◌, ◌^◌, ◌≤◌, ◌<◌, min, ℤ, T, Float}
+use Rattle.std.specs.Prelude.{◌≡◌, Bool, true, false, ℕ, suc, ◌+◌, ◌-◌, ◌*◌, ◌^◌, ◌≤◌, ◌<◌, min, ℤ, T, Float, Ok, IfOk}
 use Rattle.std.proofs.Common.{sym, ap, ◌∙◌, le_trans, le_of_eq, lt_of_lt_of_le, mul-one, mul-le-mul_right, le_of_mul-le-mul_right, le_of_suc-le-suc, lt_of_not-le, not-le_of_lt, arith, pow-add, pow_pos, pow_mono}
 use Rattle.std.specs.Float.{nan, inf, fin, binary32}
 use Rattle.std.specs.Float.Ieee.{up, down, fits, size}
 use Rattle.std.specs.Float.Ieee.Digits.{size-lt, size_reaches}
 use Rattle.std.specs.Float.Ieee.Positive.{num, den}
 use Rattle.std.specs.Float.Ieee.Scale.{finite}
-use Rattle.bits.specs.Answer.{gives, refused}
-use Rattle.bits.specs.Refusal as refusal
+use Rattle.bits.specs.Answer.{must}
+use Rattle.bits.specs.declared.refusal.Refusal.TheVariants as refusal
 use Rattle.shaping.specs.Extract.{exponent_of, extracted}
 use Rattle.shaping.specs.FloatLaws.{smallest, reaches-one, one-reached, biased-is, below_one}
 
@@ -90,10 +90,10 @@ pub exponent-at-most : (x : Float) → exponent_of x ≤ 24
 unfolding exponent_of
 exponent-at-most x = omega arith
 
-pub extracted-most : (x : Float) → (extracted x).value ≤ 24
+pub extracted-most : (x : Float) → IfOk (extracted x) (λ e. e ≤ 24)
 unfolding extracted
 extracted-most x = by-finite (finite x)
   where
-    by-finite : (f : Bool) → (cond (not f) (refused refusal.not_finite) (gives (exponent_of x))).value ≤ 24
+    by-finite : (f : Bool) → IfOk (must f refusal.NotFinite (Ok (exponent_of x))) (λ e. e ≤ 24)
     by-finite true = exponent-at-most x
-    by-finite false = omega arith
+    by-finite false = tt

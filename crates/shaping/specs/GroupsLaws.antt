@@ -1,7 +1,10 @@
--- Laws of the groups: what a span is in numbers, and that the groups are a third of the spans coded, rounded up.
-use Rattle.std.specs.Prelude.{◌≡◌, true, ◌||◌, ◌⊎◌, ℕ, ◌+◌, ◌-◌, ◌/◌, ◌%◌, ◌≤◌, ◌<◌, eqb}
+-- Laws of the groups: what a span is in numbers and as a strategy, and that the groups are a third of the spans coded, rounded up.
+use Rattle.std.specs.Prelude.{◌≡◌, refl, true, ◌||◌, ◌⊎◌, ℕ, ◌+◌, ◌-◌, ◌/◌, ◌%◌, ◌≤◌, ◌<◌, eqb}
 use Rattle.std.proofs.Common.{inl, inr, ⊎_elim, arith, eqb-true}
 use Rattle.bits.specs.Tests.{either}
+use Rattle.elements.specs.Strategy.{grpsize}
+use Rattle.elements.specs.declared.strategy.Strategy.{Strategy}
+use Rattle.elements.specs.declared.strategy.Strategy.TheVariants.{D15, D25, D45}
 use Rattle.shaping.specs.Passes.{is_span}
 use Rattle.shaping.specs.Groups.{groups, span_count}
 
@@ -14,6 +17,12 @@ span-is span h =
 -- what holds of the three spans holds of each
 pub by_span : (P : ℕ → Type 0) → P 1 → P 2 → P 4 → (span : ℕ) → is_span span ≡ true → P span
 by_span P a b d span h = ⊎_elim (λ e. rw e a) (λ r. ⊎_elim (λ e. rw e b) (λ e. rw e d) r) (span-is span h)
+
+-- a strategy's span, and the strategy of a number of bins
+pub is_span-grpsize : (s : Strategy) → is_span (grpsize s) ≡ true
+is_span-grpsize D15 = refl
+is_span-grpsize D25 = refl
+is_span-grpsize D45 = refl
 
 pub span-bounds : (span : ℕ) → is_span span ≡ true → (0 < span) × (span ≤ 4)
 span-bounds span h = by_span (λ s. (0 < s) × (s ≤ 4)) (omega arith, omega arith) (omega arith, omega arith) (omega arith, omega arith) span h

@@ -1,21 +1,19 @@
 // `preprocess_d15`: exponents shaped for D15 in place (document 01, "Exponents"; A/52 7.1.3).
 ghost use Rattle.std.specs.Prelude.{◌≡◌, ◌-◌, ◌<◌, ◌≤◌, length};
 ghost use Rattle.shaping.specs.D15.{limited};
-ghost use Rattle.shaping.specs.Passes.{preprocess_refusal, preprocessed};
+ghost use Rattle.shaping.specs.Passes.{preprocess_check, preprocessed};
 ghost use Rattle.shaping.specs.Reach.{ascended, descended};
 
-use crate::passes::smaller;
 use crate::reach::reach_all;
+use bits::Refusal;
 
 // From the last bin on: each at most 24, and at most 2 above the one behind it.
 fn descend(exp: &mut [u8])
     ensures { exp.new ≡ descended exp.old }
 {
-    let mut i = exp.len();
     let mut v = 24u8;
-    while 0 < i {
-        i -= 1;
-        v = smaller(smaller(exp[i], 24), v + 2);
+    for i in (0..exp.len()).rev() {
+        v = exp[i].min(24).min(v + 2);
         exp[i] = v;
     }
 }
@@ -26,12 +24,10 @@ fn ascend(exp: &mut [u8], limit: u8)
     requires le_limit { (2 ≤ limit) × (limit ≤ 24) }
     ensures { exp.new ≡ ascended (limit - 2) exp.old }
 {
-    let mut i = 0;
     let mut v = limit - 2;
-    while i < exp.len() {
-        v = smaller(exp[i], v + 2);
+    for i in 0..exp.len() {
+        v = exp[i].min(v + 2);
         exp[i] = v;
-        i += 1;
     }
 }
 
@@ -61,17 +57,14 @@ pub(crate) fn shape(exp: &mut [u8], limit: u8)
     reach_all(exp, limit);
 }
 
-pub fn preprocess_d15(exp: &mut [u8]) -> u32
-    ensures value { result ≡ preprocess_refusal exp.old }
+#[tactic(auto, unfolding(crate::specs::Passes::preprocessed))]
+pub fn preprocess_d15(exp: &mut [u8]) -> Result<(), Refusal>
+    ensures value { result ≡ preprocess_check exp.old }
     ensures exp_after { exp.new ≡ preprocessed exp.old }
 {
     if 256 < exp.len() {
-        return bits::refusal::WRONG_LENGTH;
+        return Err(Refusal::WrongLength);
     }
-    if exp.len() < FEW {
-        pass_by_pass(exp, 15);
-        return bits::refusal::ACCEPTED;
-    }
-    reach_all(exp, 15);
-    bits::refusal::ACCEPTED
+    shape(exp, 15);
+    Ok(())
 }

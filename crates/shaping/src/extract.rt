@@ -4,6 +4,7 @@ ghost use Rattle.std.specs.Float.Ieee.Scale.{finite};
 ghost use Rattle.shaping.specs.Extract.{exponent_of, extracted};
 
 use crate::finite::is_finite;
+use bits::Refusal;
 
 // The exponent of a finite coefficient.
 #[tactic(auto, unfolding(crate::specs::Extract::exponent_of))]
@@ -21,11 +22,12 @@ pub fn exponent_of(x: f32) -> u8
     (126 - field) as u8
 }
 
-pub fn extract_exponent(x: f32) -> bits::Answer
+#[tactic(auto, unfolding(crate::specs::Extract::extracted))]
+pub fn extract_exponent(x: f32) -> Result<u8, Refusal>
     ensures { result ≡ extracted x }
 {
     if !is_finite(x) {
-        return bits::refused(bits::refusal::NOT_FINITE);
+        return Err(Refusal::NotFinite);
     }
-    bits::accepted(exponent_of(x) as u32)
+    Ok(exponent_of(x))
 }

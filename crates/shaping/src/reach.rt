@@ -5,19 +5,15 @@ ghost use Rattle.bits.specs.Parts.{tab};
 ghost use Rattle.shaping.specs.D15.{limited};
 ghost use Rattle.shaping.specs.Reach.{topped, free, padded, near_least, far_least};
 
-use crate::passes::smaller;
-
 // None above what its bin may hold: its limit in the first, 24 in the others.
 fn hold_tops(exp: &[u8], limit: u8, to: &mut [u8])
     requires exp_nonzero { (0 < length exp.now) × (length to.old ≡ length exp.now) }
     requires le_limit { (15 ≤ limit) × (limit ≤ 24) }
     ensures { to.new ≡ topped limit exp.now }
 {
-    to[0] = smaller(exp[0], limit);
-    let mut i = 1;
-    while i < to.len() {
-        to[i] = smaller(exp[i], 24);
-        i += 1;
+    to[0] = exp[0].min(limit);
+    for i in 1..to.len() {
+        to[i] = exp[i].min(24);
     }
 }
 
@@ -26,7 +22,18 @@ fn either(a: u8, b: u8, rise: u8) -> u8
     requires { (a ≤ 24) × (rise ≤ 16) }
     ensures { result ≡ min a b + rise }
 {
-    smaller(a, b) + rise
+    a.min(b) + rise
+}
+
+// Each bin gets what `least` finds for it.
+fn each_least<F: Fn(usize) -> u8>(to: &mut [u8], least: F)
+    requires { (i : ℕ) → i < length to.old → F.pre least i }
+    ensures same_length { length to.new ≡ length to.old }
+    ensures found { (i : ℕ) → i < length to.old → F.post least i (get_or to.new i 0) }
+{
+    for i in 0..to.len() {
+        to[i] = least(i);
+    }
 }
 
 fn near_least(from: &[u8], i: usize) -> u8
@@ -37,7 +44,7 @@ fn near_least(from: &[u8], i: usize) -> u8
     let one = either(from[i + 2], from[i + 4], 2);
     let two = either(from[i + 1], from[i + 5], 4);
     let three = either(from[i], from[i + 6], 6);
-    smaller(smaller(from[i + 3], one), smaller(two, three))
+    from[i + 3].min(one).min(two.min(three))
 }
 
 fn reach_near(from: &[u8], to: &mut [u8])
@@ -45,11 +52,7 @@ fn reach_near(from: &[u8], to: &mut [u8])
     requires by_index { (k : ℕ) → get_or from.now k 0 ≤ 24 }
     ensures { to.new ≡ tab (length to.old) (near_least from.now) }
 {
-    let mut i = 0;
-    while i < to.len() {
-        to[i] = near_least(from, i);
-        i += 1;
-    }
+    each_least(to, |i| near_least(from, i));
 }
 
 fn far_least(from: &[u8], i: usize) -> u8
@@ -59,7 +62,7 @@ fn far_least(from: &[u8], i: usize) -> u8
 {
     let four = either(from[i + 4], from[i + 12], 8);
     let eight = either(from[i], from[i + 16], 16);
-    smaller(from[i + 8], smaller(four, eight))
+    from[i + 8].min(four.min(eight))
 }
 
 fn reach_far(from: &[u8], to: &mut [u8])
@@ -67,11 +70,7 @@ fn reach_far(from: &[u8], to: &mut [u8])
     requires by_index { (k : ℕ) → get_or from.now k 0 ≤ 24 }
     ensures { to.new ≡ tab (length to.old) (far_least from.now) }
 {
-    let mut i = 0;
-    while i < to.len() {
-        to[i] = far_least(from, i);
-        i += 1;
-    }
+    each_least(to, |i| far_least(from, i));
 }
 
 // The exponents among three bins on either side that allow any exponent.

@@ -1,15 +1,16 @@
 -- How the records of a sheet are counted off, one at a time.
 use mathlib.Core.Path.{◌≡◌, refl, sym, ap, ◌∙◌}
 use mathlib.Core.List.{List, [], ◌∷◌}
-use mathlib.Core.Bool.{Bool, true, false, cond, ◌&&◌, and_assoc, and-true}
+use mathlib.Core.Bool.{Bool, ◌&&◌, and_assoc}
 use Prim.Native.Nat.{ℕ, zero, suc, ◌+◌, ◌-◌, ◌≤◌, ◌<◌}
 use native.Mathlib.Omega.{arith}
-use lib.ListN.{length, get_or, take, drop, length-drop, drop_of_length-le}
-use lib.Seq.{drop-drop, take_all, drop-length}
+use lib.ListN.{length, take, drop, drop_of_length-le}
+use lib.Seq.{take_all, drop-length}
 use lib.Dec.{leb, eqb}
-use Rattle.bits.specs.Tests.{both}
-use Rattle.sheet.specs.Grammar.{record_size, count_off, records_from, every}
-use Rattle.sheet.specs.Inner.{EndsAt}
+use Rattle.std.specs.List.{list_all, filter}
+use Rattle.std.specs.Prelude.{min}
+use Rattle.std.proofs.Math.Decide.{dec_lt}
+use Rattle.sheet.specs.Grammar.{record_size, count_off, every}
 use Rattle.sheet.specs.Record.{channel_of}
 use Rattle.sheet.specs.Ranges.{of_channel}
 use Rattle.sheet.specs.OrderLaws.{ascending_from}
@@ -28,66 +29,35 @@ count-off-first (x ∷ xs) h =
     ap (λ (rest : List (List ℕ)). take size (x ∷ xs) ∷ rest)
     (count-off-skip (size - 1) xs ∙ ap (λ (n : ℕ). count_off 0 (drop n (x ∷ xs))) (sym e))
 
--- the record at `at`, read off the rest of the sheet, is whole or cut short
-module _ (s : List ℕ) (at : ℕ) {size : ℕ} (h : at < length s) (e : size ≡ record_size (take (length s - at) (drop at s))) where
-  rest : take (length s - at) (drop at s) ≡ drop at s
-  rest = take_all (length s - at) (drop at s) (rw length-drop (omega arith))
+-- the record that the bytes begin with, whole or cut short
+pub first-record : (l : List ℕ) (n : ℕ) → 0 < length l → n ≡ min (record_size l) (length l) → count_off 0 l ≡ take n l ∷ count_off 0 (drop n l)
+first-record l n h e = by_cases (dec_lt (length l) (record_size l))
+  where
+    by_cases : Dec (length l < record_size l) → count_off 0 l ≡ take n l ∷ count_off 0 (drop n l)
+    by_cases (yes cut) =
+        let all : n ≡ length l = omega (arith, e) in
+        let size : length l ≤ record_size l = omega arith in
+        rw (all, take_all (length l) l (omega arith), drop-length l) (rw (take_all (record_size l) l size, drop_of_length-le l size) at (count-off-first l h))
+    by_cases (no whole) =
+        let all : n ≡ record_size l = omega (arith, e, whole) in
+        rw all (count-off-first l h)
 
-  first : records_from s at ≡ take size (drop at s) ∷ count_off 0 (drop size (drop at s))
-  first = rw (e, rest) (count-off-first (drop at s) (rw length-drop (omega arith)))
+-- no more records than bytes
+pub count-least : (k : ℕ) (l : List ℕ) → length (count_off k l) ≤ length l
+count-least k [] = omega arith
+count-least zero (x ∷ xs) = omega (arith, count-least (record_size (x ∷ xs) - 1) xs)
+count-least (suc k) (x ∷ xs) = omega (arith, count-least k xs)
 
-  pub ends-whole : size ≤ length s - at → EndsAt s at (at + size)
-  ends-whole fits =
-      let past : (at + size) - at ≡ size = omega arith in
-      record { more = omega (arith, e); within = omega arith; split = rw (past, ← (drop-drop size at s)) first }
+-- std's words for a test of all records, and for those that are of a channel
+pub all-every : (f : List ℕ → Bool) (rs : List (List ℕ)) → list_all f rs ≡ every f rs
+all-every f [] = refl
+all-every f (r ∷ rs) = ap (λ (b : Bool). f r && b) (all-every f rs)
 
-  pub ends-cut : length s - at < size → EndsAt s at (length s)
-  ends-cut cut =
-      let short : length (drop at s) ≤ size = rw length-drop (omega arith) in
-      record {
-        more = h;
-        within = omega arith;
-        split = rw (rest, drop-length) (rw (take_all size (drop at s) short, drop_of_length-le (drop at s) short) at first);
-      }
+pub filter-of_channel : (c : ℕ) (rs : List (List ℕ)) → filter (λ r. eqb (channel_of r) c) rs ≡ of_channel c rs
+filter-of_channel c [] = refl
+filter-of_channel c (r ∷ rs) = rw (filter-of_channel c rs)
 
--- no records start past the end
-pub records-end : (s : List ℕ) (at : ℕ) → length s ≤ at → records_from s at ≡ []
-records-end s at h = ap (count_off 0) (drop_of_length-le s h)
-
-module _ (f : List ℕ → Bool) {l : List (List ℕ)} where
-  pub every-step : {r : List ℕ} {rs : List (List ℕ)} → l ≡ r ∷ rs → (all : Bool) → (all && f r && every f rs) ≡ (all && every f l)
-  every-step {r} {rs} e all = and_assoc all (f r) (every f rs) ∙ sym (ap (λ (k : List (List ℕ)). all && every f k) e)
-
-  pub every-done : l ≡ [] → (all : Bool) → all ≡ (all && every f l)
-  every-done e all = sym (and-true all) ∙ sym (ap (λ (k : List (List ℕ)). all && every f k) e)
-
-  pub every-parts : {r : List ℕ} {rs : List (List ℕ)} → l ≡ r ∷ rs → every f l ≡ true → (f r ≡ true) × (every f rs ≡ true)
-  every-parts {r} {rs} e h = both (f r) (every f rs) (sym (ap (every f) e) ∙ h)
-
-module _ (c : ℕ) {l rs : List (List ℕ)} {r : List ℕ} (e : l ≡ r ∷ rs) where
-  pub count-step : (n : ℕ) → (n + cond (eqb (channel_of r) c) 1 0) + length (of_channel c rs) ≡ n + length (of_channel c l)
-  count-step n = rw e (by_cases (eqb (channel_of r) c))
-    where
-      by_cases : (b : Bool) → (n + cond b 1 0) + length (of_channel c rs) ≡ n + length (cond b (r ∷ of_channel c rs) (of_channel c rs))
-      by_cases true = omega arith
-      by_cases false = omega arith
-
--- the order: one record more, and none left
-module _ (least : ℕ) {l : List (List ℕ)} where
-  pub order-step : {r : List ℕ} {rs : List (List ℕ)} → l ≡ r ∷ rs → (all : Bool)
-      → (all && leb least (channel_of r) && ascending_from (channel_of r + 1) rs) ≡ (all && ascending_from least l)
-  order-step {r} {rs} e all = and_assoc all (leb least (channel_of r)) (ascending_from (channel_of r + 1) rs) ∙ sym (ap (λ (k : List (List ℕ)). all && ascending_from least k) e)
-
-  pub order-done : l ≡ [] → (all : Bool) → all ≡ (all && ascending_from least l)
-  order-done e all = sym (and-true all) ∙ sym (ap (λ (k : List (List ℕ)). all && ascending_from least k) e)
-
--- the record at a place is the next one, or one of those after it
-module _ {l rs : List (List ℕ)} {r : List ℕ} (e : l ≡ r ∷ rs) where
-  pub found_here : (k : ℕ) → k ≡ 0 → get_or l k [] ≡ r
-  found_here k z = rw (e, z)
-
-  pub found-later : (k : ℕ) → (k ≡ 0 → ⊥) → get_or l k [] ≡ get_or rs (k - 1) []
-  found-later zero h = absurd (h refl)
-  found-later (suc k) h =
-      let before : k ≡ suc k - 1 = omega arith in
-      rw e (ap (λ (n : ℕ). get_or rs n []) before)
+-- the order: one record more
+pub order-step : (least : ℕ) {l : List (List ℕ)} {r : List ℕ} {rs : List (List ℕ)} → l ≡ r ∷ rs → (all : Bool)
+    → (all && leb least (channel_of r) && ascending_from (channel_of r + 1) rs) ≡ (all && ascending_from least l)
+order-step least {l} {r} {rs} e all = and_assoc all (leb least (channel_of r)) (ascending_from (channel_of r + 1) rs) ∙ sym (ap (λ (k : List (List ℕ)). all && ascending_from least k) e)

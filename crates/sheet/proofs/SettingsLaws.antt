@@ -1,31 +1,29 @@
 -- The settings of an accepted sheet: its records by value, as they stand; legal; and, written out, the sheet, so that equal settings are equal
 -- bytes (document 02, W1).
-use Rattle.std.specs.Prelude.{ℕ, ◌≤◌, ◌<◌, ◌≡◌, true, length, take}
+use Rattle.std.specs.Prelude.{ℕ, ◌≤◌, ◌<◌, ◌≡◌, Ok, length, take}
 use Rattle.std.proofs.Math.Path.{refl, sym, ap}
-use Rattle.std.proofs.Common.{◌∙◌, arith, take_all}
+use Rattle.std.proofs.Common.{◌∙◌, arith, subst, take_all}
 use mathlib.Core.List.{List, [], map}
 use Rattle.std.proofs.Math.Decide.{dec_lt}
 use Rattle.std.proofs.Math.ListN.{get_or, get_or-map, get_or-eq_default}
 use Rattle.std.proofs.lemmas.List.{length-map}
 use Rattle.bits.specs.Bytes.{Bytes}
 use Rattle.bits.specs.PartsLaws.{tab-cong, tab-list}
-use Rattle.bits.specs.Refusal as refusal
-use Rattle.sheet.specs.declared.record.BlockSet.{BlockSet}
 use Rattle.sheet.specs.declared.record.ChannelRecord.{ChannelRecord}
-use Rattle.sheet.specs.declared.record.ExponentSet.{ExponentSet}
-use Rattle.sheet.specs.declared.record.ExponentSet.TheVariants.{Reuse}
 use Rattle.sheet.specs.declared.settings.Settings.{Settings}
 use Rattle.sheet.specs.Grammar.{records_of}
 use Rattle.sheet.specs.Common.{common_of, channels_of}
 use Rattle.sheet.specs.Record.{six_of, channel_record, record_bytes, record_of}
-use Rattle.sheet.specs.RecordLaws.{six-at, of-six}
+use Rattle.elements.specs.declared.set.BlockSet.{BlockSet}
+use Rattle.elements.specs.declared.set.ExponentSet.TheVariants.{Reuse}
+use Rattle.sheet.specs.RecordLaws.{six-at}
 use Rattle.sheet.specs.Sheet.{check_of}
 use Rattle.sheet.specs.Settings.{record_numbered, settings_of, channels, no_record, record_at, end_at, strategies_of, set_at}
 use Rattle.sheet.specs.Sizes.{most_channels}
 use Rattle.sheet.specs.Legal.{EndBounds, LegalEnd, LegalRecord}
-use Rattle.sheet.specs.LegalSettings.{is_set, LegalSettings, ChannelEnd}
+use Rattle.sheet.specs.LegalSettings.{LegalSettings, ChannelCount, ChannelEnd}
 use Rattle.sheet.specs.OrderLaws.{of_number, none-past}
-use Rattle.sheet.proofs.Laws.{structure-tests, range-tests, records-numbered, legal-sheet, reuses, every-block, first_block}
+use Rattle.sheet.proofs.Laws.{structure-tests, range-tests, records-numbered, legal-sheet, reuses, first_block}
 use Rattle.sheet.specs.Written.{sheet_written}
 use Rattle.sheet.specs.WrittenLaws.{written-again}
 
@@ -56,22 +54,14 @@ module _ {settings : Settings} (under : LegalSettings settings) where
   pub end-bounds : (c : ℕ) → c < channels settings → EndBounds (end_at settings c)
   end-bounds c h = (end-legal c h).bounds
 
-  -- the end that the record at the channel's place holds
-  pub end-held : (c k r : ℕ) → c < channels settings → c ≡ k → r ≡ (get_or settings.records k no_record).end → ChannelEnd settings c r
-  end-held c k r h e q =
-      let is : r ≡ end_at settings c = unfold end_at record_at in q ∙ ap (λ (i : ℕ). (get_or settings.records i no_record).end) (sym e) in
-      record { is = is; least = omega (arith, is, (end-bounds c h).least); most = omega (arith, is, (end-bounds c h).most) }
+  -- r is that number, and r is that end
+  pub channel-count : (r : ℕ) → r ≡ channels settings → ChannelCount settings r
+  channel-count r is = record { is = is; least = omega (arith, is, channels-bounds.0); most = omega (arith, is, channels-bounds.1) }
 
-reuse-is-set : is_set Reuse ≡ true
-unfolding is_set
-reuse-is-set = refl
+  pub channel-end : (c r : ℕ) → c < channels settings → r ≡ end_at settings c → ChannelEnd settings c r
+  channel-end c r h is = record { is = is; least = omega (arith, is, (end-bounds c h).least); most = omega (arith, is, (end-bounds c h).most) }
 
--- each block of a record by value has such a set
-is-set : (r : List ℕ) (b : ℕ) → is_set (get_or (channel_record r).blocks b reuses).set ≡ true
-unfolding is_set
-is-set r b = every-block (λ (set : ExponentSet). is_set set ≡ true) refl refl refl refl r b
-
-module _ (s : List ℕ) (accepted : check_of s ≡ refusal.accepted) where
+module _ (s : List ℕ) (accepted : check_of s ≡ Ok tt) where
   -- the record with a channel's number is the one at its place; past the last there is none
   pub number-is-place : (c : ℕ) → record_numbered s c ≡ record_bytes s c
   number-is-place c = by_cases (dec_lt c (length (records_of s)))
@@ -102,22 +92,18 @@ module _ (s : List ℕ) (accepted : check_of s ≡ refusal.accepted) where
   few : (c : ℕ) → c < channels_of (common_of s) → c < 6
   few c b = omega (arith, (legal-sheet s accepted).common.channels-most)
 
-  sets-legal : (b c : ℕ) → is_set (set_at (settings_of s) b c) ≡ true
-  unfolding set_at strategies_of record_at settings_of
-  sets-legal b c =
-      of-six (λ (row : List BlockSet). is_set (get_or row b reuses).set ≡ true) (λ k. (get_or (six_of (λ j. channel_record (record_numbered s j))) k no_record).blocks) [] reuse-is-set
-      (λ k h. rw (six-at (λ j. channel_record (record_numbered s j)) no_record k h) (is-set (record_numbered s k) b)) c
-
   pub settings-legal : LegalSettings (settings_of s)
   unfolding record_at
   settings-legal =
       record {
         common = rw settings-common (legal-sheet s accepted).common;
         record-at = λ c b. rw (settings-common, settings-record c (few c (rw settings-common at b))) ((legal-sheet s accepted).record_of c (rw settings-common at b));
-        sets = sets-legal;
         first = λ c b e. let h : c < channels_of (common_of s) = rw settings-common at b in
             first_block s accepted c h (sym (ap (λ (r : ChannelRecord). (get_or r.blocks 0 reuses).set) (settings-record c (few c h))) ∙ sym (set-held (settings_of s) 0 c (few c h)) ∙ e);
       }
+
+  pub legal-as-they-stand : LegalSettings (record { common = common_of s; records = six_of (record_of s) })
+  legal-as-they-stand = subst (λ (w : Settings). LegalSettings w) settings-as-they-stand settings-legal
 
   -- ---- written out
 
@@ -139,6 +125,6 @@ module _ (s : List ℕ) (accepted : check_of s ≡ refusal.accepted) where
       written-again s (settings_of s) legal.size legal.matches legal.version (bytes 1) (structure-tests s accepted).3 (range-tests s accepted).1
       settings-common records-as-they-stand
 
-pub settings-fix-bytes : (s t : List ℕ) → Bytes s → Bytes t → check_of s ≡ refusal.accepted → check_of t ≡ refusal.accepted → settings_of s ≡ settings_of t → s ≡ t
+pub settings-fix-bytes : (s t : List ℕ) → Bytes s → Bytes t → check_of s ≡ Ok tt → check_of t ≡ Ok tt → settings_of s ≡ settings_of t → s ≡ t
 settings-fix-bytes s t s-bytes t-bytes s-accepted t-accepted same =
     sym (settings-written s s-accepted s-bytes) ∙ ap sheet_written same ∙ settings-written t t-accepted t-bytes

@@ -1,22 +1,15 @@
 -- What holds of each value of settings, whatever bytes they come from: those of an accepted sheet are such (SettingsLaws.antt, `settings-legal`).
-use Rattle.std.specs.Prelude.{ℕ, ◌≤◌, ◌<◌, ◌≡◌, Bool, true, ◌||◌, eqb}
-use Rattle.sheet.specs.declared.record.ExponentSet.{ExponentSet}
-use Rattle.sheet.specs.declared.record.ExponentSet.TheVariants.{Reuse, New}
+use Rattle.std.specs.Prelude.{ℕ, ◌≤◌, ◌<◌, ◌≡◌}
+use Rattle.elements.specs.declared.set.ExponentSet.TheVariants.{Reuse}
 use Rattle.sheet.specs.declared.settings.Settings.{Settings}
 use Rattle.sheet.specs.Common.{channels_of}
 use Rattle.sheet.specs.Legal.{LegalCommon, LegalRecord}
 use Rattle.sheet.specs.Sizes.{most_channels}
 use Rattle.sheet.specs.Settings.{channels, record_at, end_at, set_at}
 
--- reuse, or a new set of span 1, 2 or 4
-unfoldable pub is_set : ExponentSet → Bool
-is_set Reuse = true
-is_set (New span) = eqb span 1 || (eqb span 2 || eqb span 4)
-
 pub record LegalSettings (settings : Settings) : Type 0 where
   pub common : LegalCommon settings.common
   pub record-at : (c : ℕ) → c < channels_of settings.common → LegalRecord settings.common c (record_at settings c)
-  pub sets : (b c : ℕ) → is_set (set_at settings b c) ≡ true
   -- block 0 is never reuse
   pub first : (c : ℕ) → c < channels_of settings.common → set_at settings 0 c ≡ Reuse → ⊥
 

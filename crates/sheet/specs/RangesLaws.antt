@@ -5,12 +5,13 @@ use Rattle.std.proofs.Math.Bool.{or-false, or-true}
 use Rattle.std.proofs.Math.Decide.{dec_lt}
 use Rattle.std.proofs.Math.ListN.{get_or-eq_default}
 use Rattle.bits.specs.Tests.{both, either}
+use Rattle.elements.specs.declared.segment.Segment.{Segment}
 use Rattle.sheet.specs.declared.common_part.Common.{Common}
 use Rattle.sheet.specs.Grammar.{nseg_of, record_size}
 use Rattle.sheet.specs.Common.{channels_of, common_in_range}
-use Rattle.sheet.specs.Record.{channel_of, end_of, strategy_of, fsnroffst_of, fgaincod_of, offst_at, len_at, ba_at, segment_value, column_of, channel_record}
+use Rattle.sheet.specs.Record.{channel_of, end_of, strategy_of, fsnroffst_of, fgaincod_of, offst_at, len_at, ba_at, segment_value, no_segment, segment_at, eight_segments, channel_record}
 use Rattle.sheet.specs.Ranges.{all_below, lfe_end, full_end, legal_end, end_in_range, strategy_in_range, strategies_in_range, segment_in_range, nseg_in_range, is_lfe, record_in_range}
-use Rattle.sheet.specs.Legal.{LegalCommon, EndBounds, LegalEnd, LegalStrategies, LegalRecord}
+use Rattle.sheet.specs.Legal.{LegalCommon, EndBounds, LegalEnd, LegalStrategies, LegalSegment, LegalRecord}
 use Rattle.sheet.specs.Tests.{all-seven, all-below}
 use Rattle.sheet.specs.RecordLaws.{of-eight}
 
@@ -122,16 +123,23 @@ module _ (common : Common) (c : ℕ) (r : List ℕ) (whole : length r ≡ record
   segment-past : (first i : ℕ) → 11 ≤ first → nseg_of r ≤ i → segment_value r first i ≡ 0
   segment-past first i f b = get_or-eq_default r 0 (omega arith)
 
-  module _ (first most : ℕ) (f : 11 ≤ first) (there : (i : ℕ) → i < nseg_of r → segment_value r first i ≤ most) where
-    segment-most : (i : ℕ) → segment_value r first i ≤ most
-    segment-most i = by_cases (dec_lt i (nseg_of r))
-      where
-        by_cases : Dec (i < nseg_of r) → segment_value r first i ≤ most
-        by_cases (yes b) = there i b
-        by_cases (no b) = omega (arith, segment-past first i f (omega (arith, b)))
+  legal-segment : (i : ℕ) → LegalSegment (segment_at r i)
+  legal-segment i = by_cases (dec_lt i (nseg_of r))
+    where
+      by_cases : Dec (i < nseg_of r) → LegalSegment (segment_at r i)
+      by_cases (yes b) = record { offst = (segment-test i b).0; len = (segment-test i b).1; ba = (segment-test i b).2 }
+      by_cases (no b) =
+          let past : nseg_of r ≤ i = omega (arith, b) in
+          record {
+            offst = omega (arith, segment-past offst_at i (omega arith) past);
+            len = omega (arith, segment-past len_at i (omega arith) past);
+            ba = omega (arith, segment-past ba_at i (omega arith) past);
+          }
 
-    column-most : (i : ℕ) → get_or (column_of r first) i 0 ≤ most
-    column-most = of-eight (λ (x : ℕ). x ≤ most) (segment_value r first) 0 (omega arith) (λ i b. segment-most i)
+  legal-segments : (i : ℕ) → LegalSegment (get_or (eight_segments r) i no_segment)
+  legal-segments =
+      of-eight (λ (segment : Segment). LegalSegment segment) (segment_at r) no_segment
+      (record { offst = omega arith; len = omega arith; ba = omega arith }) (λ i b. legal-segment i)
 
   pub legal-record : LegalRecord common c (channel_record r)
   legal-record =
@@ -142,7 +150,5 @@ module _ (common : Common) (c : ℕ) (r : List ℕ) (whole : length r ≡ record
         fgaincod = leb-true _ _ (record-tests common r held).4;
         nseg = leb-true _ _ nseg-tests.0;
         lfe-nseg = λ k. eqb-true _ _ (rw (is-lfe k) at nseg-tests.1);
-        offst = column-most offst_at 31 (omega arith) (λ i b. (segment-test i b).0);
-        len = column-most len_at 15 (omega arith) (λ i b. (segment-test i b).1);
-        ba = column-most ba_at 7 (omega arith) (λ i b. (segment-test i b).2);
+        segments = legal-segments;
       }

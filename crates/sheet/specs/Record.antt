@@ -1,10 +1,12 @@
 -- A channel's record, document 01, "The track sheet": where each value stands among its bytes, and the record by value.
 -- A record as its bytes is r, a sheet is s.
-use Rattle.std.specs.Prelude.{ℕ, ◌+◌, ◌*◌, List, [], ◌∷◌, cond, get_or, eqb}
+use Rattle.std.specs.Prelude.{ℕ, ◌+◌, ◌*◌, List, [], ◌∷◌, cond, get_or, take, eqb}
+use Rattle.elements.specs.declared.segment.Segment.{Segment}
+use Rattle.elements.specs.declared.set.BlockSet.{BlockSet}
+use Rattle.elements.specs.declared.set.ExponentSet.{ExponentSet}
+use Rattle.elements.specs.declared.set.ExponentSet.TheVariants.{Reuse, New}
+use Rattle.elements.specs.declared.strategy.Strategy.TheVariants.{D15, D25, D45}
 use Rattle.sheet.specs.Grammar.{nseg_of, records_of}
-use Rattle.sheet.specs.declared.record.ExponentSet.{ExponentSet}
-use Rattle.sheet.specs.declared.record.ExponentSet.TheVariants.{Reuse, New}
-use Rattle.sheet.specs.declared.record.BlockSet.{BlockSet}
 use Rattle.sheet.specs.declared.record.ChannelRecord.{ChannelRecord}
 
 -- ---- the bytes of a record: channel, end, six strategies, fsnroffst, fgaincod, nseg, then nseg times offst, len, ba
@@ -42,7 +44,7 @@ segment_value r first i = get_or r (first + 3 * i) 0
 
 -- the set that a strategy's number names; another number does not pass the ranges
 abbrev pub set_of : ℕ → ExponentSet
-set_of x = cond (eqb x 0) Reuse (cond (eqb x 1) (New 1) (cond (eqb x 2) (New 2) (New 4)))
+set_of x = cond (eqb x 0) Reuse (cond (eqb x 1) (New D15) (cond (eqb x 2) (New D25) (New D45)))
 
 -- ---- a record by value
 
@@ -60,11 +62,17 @@ block_set x = record { set = set_of x }
 abbrev pub blocks_of : List ℕ → List BlockSet
 blocks_of r = six_of (λ block. block_set (strategy_of r block))
 
--- one of offst, len and ba, of eight segments
-abbrev pub column_of : List ℕ → ℕ → List ℕ
-column_of r first = eight_of (segment_value r first)
+-- a segment that is not there
+abbrev pub no_segment : Segment
+no_segment = record { offst = 0; len = 0; ba = 0 }
 
--- a segment that is not there is all 0
+-- segment i, all 0 where it is not there
+abbrev pub segment_at : List ℕ → ℕ → Segment
+segment_at r i = record { offst = segment_value r offst_at i; len = segment_value r len_at i; ba = segment_value r ba_at i }
+
+abbrev pub eight_segments : List ℕ → List Segment
+eight_segments r = eight_of (segment_at r)
+
 abbrev pub channel_record : List ℕ → ChannelRecord
 channel_record r =
     record {
@@ -74,10 +82,12 @@ channel_record r =
       fsnroffst = fsnroffst_of r;
       fgaincod = fgaincod_of r;
       nseg = nseg_of r;
-      offst = column_of r offst_at;
-      len = column_of r len_at;
-      ba = column_of r ba_at;
+      segments = eight_segments r;
     }
+
+-- those that the record says that it has
+abbrev pub segments_of : ChannelRecord → List Segment
+segments_of v = take v.nseg v.segments
 
 -- ---- the record of a channel: one for each, in ascending channel number (document 02, W1), so that of channel c has c before it
 

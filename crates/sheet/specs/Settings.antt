@@ -1,10 +1,10 @@
 -- What a sheet sets, wherever its records stand: document 01, "The track sheet", and document 02, W1. By value they are a `Settings`
 -- (sheet/src/settings.rt): the common part, and the values of each channel's record.
 use Rattle.std.specs.Prelude.{ℕ, List, [], get_or}
-use Rattle.sheet.specs.declared.record.BlockSet.{BlockSet}
+use Rattle.elements.specs.declared.set.BlockSet.{BlockSet}
+use Rattle.elements.specs.declared.set.ExponentSet.{ExponentSet}
+use Rattle.elements.specs.declared.set.ExponentSet.TheVariants.{Reuse}
 use Rattle.sheet.specs.declared.record.ChannelRecord.{ChannelRecord}
-use Rattle.sheet.specs.declared.record.ExponentSet.{ExponentSet}
-use Rattle.sheet.specs.declared.record.ExponentSet.TheVariants.{Reuse}
 use Rattle.sheet.specs.declared.settings.Settings.{Settings}
 use Rattle.sheet.specs.Grammar.{records_of}
 use Rattle.sheet.specs.Common.{common_of, channels_of}
@@ -29,7 +29,7 @@ channels settings = channels_of settings.common
 
 -- past the records that settings have
 abbrev pub no_record : ChannelRecord
-no_record = record { channel = 0; end = 0; blocks = []; fsnroffst = 0; fgaincod = 0; nseg = 0; offst = []; len = []; ba = [] }
+no_record = record { channel = 0; end = 0; blocks = []; fsnroffst = 0; fgaincod = 0; nseg = 0; segments = [] }
 
 -- the record of channel c
 unfoldable pub record_at : Settings → ℕ → ChannelRecord

@@ -1,25 +1,20 @@
 -- A sheet written out from its settings, as documents 01, "The track sheet", and 02, W1, lay it out.
-use Rattle.std.specs.Prelude.{ℕ, ◌/◌, ◌%◌, cond, length, get_or, take, eqb}
+use Rattle.std.specs.Prelude.{ℕ, ◌/◌, ◌%◌, length, get_or, take}
 use mathlib.Core.List.{List, [], ◌∷◌, ◌++◌, map, flatten}
 use Rattle.bits.specs.Parts.{joined}
-use Rattle.sheet.specs.declared.record.ExponentSet.{ExponentSet}
-use Rattle.sheet.specs.declared.record.ExponentSet.TheVariants.{Reuse, New}
+use Rattle.elements.specs.Strategy.{code_of_set}
+use Rattle.elements.specs.declared.set.ExponentSet.TheVariants.{Reuse}
 use Rattle.sheet.specs.declared.record.ChannelRecord.{ChannelRecord}
-use Rattle.sheet.specs.Record.{six_of}
+use Rattle.sheet.specs.Record.{six_of, no_segment}
 use Rattle.sheet.specs.declared.settings.Settings.{Settings}
 use Rattle.sheet.specs.Common.{channels_of}
 
--- the number that names a set
-abbrev pub set_number : ExponentSet → ℕ
-set_number Reuse = 0
-set_number (New span) = cond (eqb span 1) 1 (cond (eqb span 2) 2 3)
-
 unfoldable pub strategy_written : ChannelRecord → ℕ → ℕ
-strategy_written v block = set_number (get_or v.blocks block (record { set = Reuse })).set
+strategy_written v block = code_of_set (get_or v.blocks block (record { set = Reuse })).set
 
 -- offst, len and ba of segment i
 unfoldable pub segment_written : ChannelRecord → ℕ → List ℕ
-segment_written v i = get_or v.offst i 0 ∷ get_or v.len i 0 ∷ get_or v.ba i 0 ∷ []
+segment_written v i = let s = get_or v.segments i no_segment in s.offst ∷ s.len ∷ s.ba ∷ []
 
 unfoldable pub record_written : ChannelRecord → List ℕ
 record_written v =

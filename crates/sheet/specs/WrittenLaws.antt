@@ -8,18 +8,20 @@ use Rattle.std.proofs.Math.Seq.{drop-nil}
 use Rattle.bits.specs.Tests.{both}
 use Rattle.bits.specs.Parts.{tab, joined, piece}
 use Rattle.bits.specs.PartsLaws.{tab-list, joined-cong, pieces-all}
+use Rattle.elements.specs.declared.segment.Segment.{Segment}
+use Rattle.elements.specs.Strategy.{code_of_set}
+use Rattle.elements.specs.declared.set.BlockSet.{BlockSet}
+use Rattle.elements.specs.declared.set.ExponentSet.TheVariants.{Reuse}
 use Rattle.sheet.specs.declared.common_part.Common.{Common}
-use Rattle.sheet.specs.declared.record.ExponentSet.TheVariants.{Reuse}
-use Rattle.sheet.specs.declared.record.BlockSet.{BlockSet}
 use Rattle.sheet.specs.declared.record.ChannelRecord.{ChannelRecord}
 use Rattle.sheet.specs.Grammar.{head_size, length_of, version_of, nseg_of, record_size, count_off, records_of, every, is_whole}
 use Rattle.sheet.specs.declared.settings.Settings.{Settings}
 use Rattle.sheet.specs.Common.{common_of, channels_of}
-use Rattle.sheet.specs.Record.{channel_of, strategy_of, set_of, block_set, offst_at, len_at, ba_at, segment_value, channel_record}
+use Rattle.sheet.specs.Record.{channel_of, strategy_of, set_of, block_set, no_segment, segment_at, channel_record}
 use Rattle.sheet.specs.Ranges.{record_in_range}
 use Rattle.sheet.specs.RecordLaws.{six-at, eight-at}
 use Rattle.sheet.specs.RangesLaws.{legal-strategies, legal-record}
-use Rattle.sheet.specs.Written.{set_number, strategy_written, segment_written, record_written, rest_written, sheet_written}
+use Rattle.sheet.specs.Written.{strategy_written, segment_written, record_written, rest_written, sheet_written}
 
 -- the records, put together again, are what they were counted off from
 pub records-joined : (k : ℕ) (l : List ℕ) → flatten (count_off k l) ≡ drop k l
@@ -53,7 +55,7 @@ twelve : (s : List ℕ) → 12 ≤ length s
 unfolding tab joined
 twelve s h = by_entries 12 s h
 
-number-again : (x : ℕ) → x ≤ 3 → set_number (set_of x) ≡ x
+number-again : (x : ℕ) → x ≤ 3 → code_of_set (set_of x) ≡ x
 number-again zero h = refl
 number-again (suc zero) h = refl
 number-again (suc (suc zero)) h = refl
@@ -68,15 +70,15 @@ module _ (common : Common) (r : List ℕ) (whole : length r ≡ record_size r) (
   strategy-again : (block : ℕ) → block < 6 → strategy_written (channel_record r) block ≡ strategy_of r block
   unfolding strategy_written
   strategy-again block b =
-      ap (λ (k : BlockSet). set_number k.set) (six-at (λ block. block_set (strategy_of r block)) (record { set = Reuse }) block b)
+      ap (λ (k : BlockSet). code_of_set k.set) (six-at (λ block. block_set (strategy_of r block)) (record { set = Reuse }) block b)
       ∙ number-again (strategy_of r block) ((legal-strategies common (channel_of r) r whole held refl).most block b)
 
   segment-again : (i : ℕ) → i < nseg_of r → segment_written (channel_record r) i ≡ piece 3 i (drop 11 r)
   unfolding segment_written piece
   segment-again i b =
       let eight : i < 8 = omega (arith, few) in
-      rw (eight-at (segment_value r offst_at) 0 i eight, eight-at (segment_value r len_at) 0 i eight, eight-at (segment_value r ba_at) 0 i eight)
-      (rw (drop-drop (3 * i) 11 r) (sym (three-at r (11 + 3 * i) (12 + 3 * i) (13 + 3 * i) (omega arith) (omega arith) (omega arith))))
+      ap (λ (s : Segment). s.offst ∷ s.len ∷ s.ba ∷ []) (eight-at (segment_at r) no_segment i eight)
+      ∙ rw (drop-drop (3 * i) 11 r) (sym (three-at r (11 + 3 * i) (12 + 3 * i) (13 + 3 * i) (omega arith) (omega arith) (omega arith)))
 
   segments-again : joined (nseg_of r) (segment_written (channel_record r)) ≡ drop 11 r
   segments-again =

@@ -2,7 +2,7 @@
 ghost use Rattle.std.specs.Prelude.{◌≡◌};
 ghost use Rattle.sheet.specs.Common.{common_of, channels_of, common_in_range};
 
-use crate::read::{byte_at, wide};
+use crate::read::byte_at;
 
 #[derive(Clone, Copy)]
 pub struct Common {
@@ -37,7 +37,7 @@ pub fn common_of(sheet: &[u8]) -> Common
 pub fn channels_of(common: Common) -> usize
     ensures { result ≡ channels_of common }
 {
-    wide(common.nfchans) + wide(common.lfe)
+    usize::from(common.nfchans) + usize::from(common.lfe)
 }
 
 pub fn common_in_range(common: Common) -> bool

@@ -1,4 +1,5 @@
-// Where each channel's part of a buffer stands, and the sizes of what is held by value.
+// Where each channel's part of a buffer stands, and the sizes of what is held by value. There is no heap: a local buffer has the most entries, and its
+// front is used.
 ghost use Rattle.std.specs.Prelude.{◌≡◌, ◌<◌, ◌≤◌};
 ghost use Rattle.sheet.specs.Sizes.{most_channels};
 ghost use Rattle.sheet.specs.Layout.{buffer_length};

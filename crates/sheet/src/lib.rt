@@ -7,11 +7,14 @@ pub mod layout;
 pub mod ranges;
 pub mod read;
 pub mod record;
+pub mod records;
 pub mod settings;
+pub mod track;
 
 pub use check::{check_beside, check_sheet};
 pub use common_part::{Common, channels_of, common_of};
 pub use layout::{MOST_BUFFER, MOST_CHANNELS, MOST_RECORDS, MOST_ROW, buffer_length, part_start};
 pub use ranges::legal_end;
-pub use record::{BlockSet, ChannelRecord, ExponentSet, record_of};
-pub use settings::{Settings, channels, end_at, record_at, set_at, settings_of, strategies_of};
+pub use record::{ChannelRecord, record_of};
+pub use settings::Settings;
+pub use track::Track;

@@ -3,28 +3,20 @@ ghost use Rattle.std.specs.Prelude.{◌≡◌, ◌<◌};
 ghost use Rattle.sheet.specs.Record.{
   block_set,
   blocks_of,
-  column_of,
   channel_record,
+  eight_segments,
   record_bytes,
   record_of,
+  segment_at,
+  segments_of,
+  set_of,
   strategy_of,
 };
 
-use crate::read::{HEAD_SIZE, byte_at, record_end};
+use crate::read::byte_at;
+use crate::records::Records;
+use elements::{BlockSet, ExponentSet, Segment, Strategy};
 
-// The exponents of a block: those of the block before, or a new set with its span.
-#[derive(Clone, Copy)]
-pub enum ExponentSet {
-    Reuse,
-    New(u8),
-}
-
-#[derive(Clone, Copy)]
-pub struct BlockSet {
-    pub set: ExponentSet,
-}
-
-// The segments that are not there are 0.
 #[derive(Clone, Copy)]
 pub struct ChannelRecord {
     pub channel: u8,
@@ -33,31 +25,41 @@ pub struct ChannelRecord {
     pub fsnroffst: u8,
     pub fgaincod: u8,
     pub nseg: u8,
-    pub offst: [u8; 8],
-    pub len: [u8; 8],
-    pub ba: [u8; 8],
+    /// Room for eight, as there is no heap; those that are not there are all 0.
+    pub segments: [Segment; 8],
+}
+
+impl ChannelRecord {
+    /// The first `nseg`.
+    pub fn segments_in_use(&self) -> &[Segment]
+        ensures { result.now ≡ segments_of self.now }
+    {
+        &self.segments[..usize::from(self.nseg).min(8)]
+    }
 }
 
 // 0 reuse, 1 D15, 2 D25, 3 D45.
-fn block_set(strategy: u8) -> BlockSet
-    ensures { result ≡ block_set strategy }
+fn set_of(strategy: u8) -> ExponentSet
+    ensures { result ≡ set_of strategy }
 {
-    let set = match strategy {
+    match strategy {
         0 => ExponentSet::Reuse,
-        1 => ExponentSet::New(1),
-        2 => ExponentSet::New(2),
-        _ => ExponentSet::New(4),
-    };
-    BlockSet { set: set }
+        1 => ExponentSet::New(Strategy::D15),
+        2 => ExponentSet::New(Strategy::D25),
+        _ => ExponentSet::New(Strategy::D45),
+    }
 }
 
 fn block_at(bytes: &[u8], block: usize) -> BlockSet
     requires { block < 6 }
     ensures { result ≡ block_set (strategy_of bytes.now block) }
 {
-    block_set(byte_at(bytes, 2 + block))
+    BlockSet {
+        set: set_of(byte_at(bytes, 2 + block)),
+    }
 }
 
+// Entry by entry: by `from_fn`, as in `eight_segments`, the equation of a block's set was not found in what its closure gives.
 fn blocks_of(bytes: &[u8]) -> [BlockSet; 6]
     ensures { result ≡ blocks_of bytes.now }
 {
@@ -71,40 +73,42 @@ fn blocks_of(bytes: &[u8]) -> [BlockSet; 6]
     ]
 }
 
-// One value of each of the eight segments: they stand three bytes apart.
-fn column(bytes: &[u8], first: usize) -> [u8; 8]
-    requires { first < 14 }
-    ensures { result ≡ column_of bytes.now first }
+// Offst, len and ba of segment i stand three bytes behind those of the one before.
+fn segment_at(bytes: &[u8], i: usize) -> Segment
+    requires { i < 8 }
+    ensures { result ≡ segment_at bytes.now i }
 {
-    [
-        byte_at(bytes, first),
-        byte_at(bytes, first + 3),
-        byte_at(bytes, first + 6),
-        byte_at(bytes, first + 9),
-        byte_at(bytes, first + 12),
-        byte_at(bytes, first + 15),
-        byte_at(bytes, first + 18),
-        byte_at(bytes, first + 21),
-    ]
+    Segment {
+        offst: byte_at(bytes, 11 + 3 * i),
+        len: byte_at(bytes, 12 + 3 * i),
+        ba: byte_at(bytes, 13 + 3 * i),
+    }
+}
+
+fn eight_segments(bytes: &[u8]) -> [Segment; 8]
+    ensures { result ≡ eight_segments bytes.now }
+{
+    std::array::from_fn(
+        |i|
+            requires { i < 8 }
+            ensures { result ≡ segment_at bytes.entry.now i }
+        { segment_at(bytes, i) },
+    )
 }
 
 fn channel_record(bytes: &[u8]) -> ChannelRecord
     ensures { result ≡ channel_record bytes.now }
 {
     let blocks = blocks_of(bytes);
-    let offst = column(bytes, 11);
-    let len = column(bytes, 12);
-    let ba = column(bytes, 13);
+    let segments = eight_segments(bytes);
     ChannelRecord {
         channel: byte_at(bytes, 0),
         end: byte_at(bytes, 1),
-        blocks: blocks,
+        blocks,
         fsnroffst: byte_at(bytes, 8),
         fgaincod: byte_at(bytes, 9),
         nseg: byte_at(bytes, 10),
-        offst: offst,
-        len: len,
-        ba: ba,
+        segments,
     }
 }
 
@@ -112,17 +116,7 @@ fn channel_record(bytes: &[u8]) -> ChannelRecord
 fn record_bytes(sheet: &[u8], channel: usize) -> &[u8]
     ensures { result.now ≡ record_bytes sheet.now channel }
 {
-    let mut at = HEAD_SIZE;
-    let mut left = channel;
-    while at < sheet.len() {
-        let next = record_end(sheet, at);
-        if left == 0 {
-            return &sheet[at..next];
-        }
-        left = left - 1;
-        at = next;
-    }
-    &sheet[0..0]
+    Records::of(sheet).nth(channel).unwrap_or(&[])
 }
 
 // The record of a channel of an accepted sheet; all 0 where there is none.

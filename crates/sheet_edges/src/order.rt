@@ -1,8 +1,8 @@
 // The order of the records, document 02, W1: a sheet that is out of order is refused with 11, and only where nothing makes it a 1 or a 2.
 ghost use Rattle.std.specs.Prelude.{◌≡◌, ◌+◌, ◌<◌, ◌≤◌, length};
 
-use crate::sheets::{judge, put};
-use sheet::read::wide;
+use crate::sheets::{edit, judge};
+use bits::Refusal;
 use std::io;
 
 // The LFE is channel n.
@@ -33,11 +33,11 @@ fn record(bytes: &mut [u8], at: usize, channel: u8, n: u8) -> usize
     ensures bytes_len_unchanged { length bytes.new ≡ length bytes.old }
 {
     let nseg = segments_of(channel, n);
-    put(bytes, at, channel);
-    put(bytes, at + 1, end_of(channel, n));
-    put(bytes, at + 2, 1);
-    put(bytes, at + 10, nseg);
-    at + (11 + 3 * wide(nseg))
+    bytes[at] = channel;
+    bytes[at + 1] = end_of(channel, n);
+    bytes[at + 2] = 1;
+    bytes[at + 10] = nseg;
+    at + (11 + 3 * usize::from(nseg))
 }
 
 // The sheet whose records are those of these channels, in this order; how many bytes it has: a head of 12, and at most 26 a record.
@@ -46,42 +46,39 @@ fn sheet_of(bytes: &mut [u8], n: u8, lfe: u8, channels: &[u8]) -> usize
     ensures upper_bound { result ≤ 168 }
     ensures bytes_len_unchanged { length bytes.new ≡ length bytes.old }
 {
-    put(bytes, 2, 1);
-    put(bytes, 4, n);
-    put(bytes, 5, lfe);
+    bytes[2] = 1;
+    bytes[4] = n;
+    bytes[5] = lfe;
     let mut at: usize = 12;
-    for i in 0..channels.len() {
-        at = record(bytes, at, channels[i], n);
+    for channel in channels {
+        at = record(bytes, at, *channel, n);
     }
-    put(bytes, 1, (at - 2) as u8);
+    bytes[1] = (at - 2) as u8;
     at
 }
 
-// That sheet with one byte changed.
+// That sheet with some bytes changed.
 fn arranged_edited(
     rt: &impl Print,
     label: &str,
     n: u8,
     lfe: u8,
     channels: &[u8],
-    at: usize,
-    value: u8,
-) -> io::Result<()> {
+    edits: &[(usize, u8)],
+) -> io::Result<()>
+    requires { length channels.now ≤ 6 }
+{
     let mut bytes = [0u8; 168];
-    if 6 < channels.len() {
-        return Ok(());
-    }
-    if 168 <= at {
-        return Ok(());
-    }
     let size = sheet_of(&mut bytes, n, lfe, channels);
-    put(&mut bytes, at, value);
-    judge(rt, label, &bytes[0..size])
+    edit(&mut bytes, edits);
+    judge(rt, label, &bytes[..size])
 }
 
-// That sheet as it is: its version is 1.
-fn arranged(rt: &impl Print, label: &str, n: u8, lfe: u8, channels: &[u8]) -> io::Result<()> {
-    arranged_edited(rt, label, n, lfe, channels, 2, 1)
+// That sheet as it is.
+fn arranged(rt: &impl Print, label: &str, n: u8, lfe: u8, channels: &[u8]) -> io::Result<()>
+    requires { length channels.now ≤ 6 }
+{
+    arranged_edited(rt, label, n, lfe, channels, &[])
 }
 
 pub(crate) fn places_of_the_lfe(rt: &impl Print) -> io::Result<()> {
@@ -106,29 +103,41 @@ pub(crate) fn not_each_once(rt: &impl Print) -> io::Result<()> {
 }
 
 // Channel 1's record from byte 12 with one segment, then channel 0's from byte 26 with none.
-fn backwards(rt: &impl Print, label: &str, at: usize, value: u8) -> io::Result<()> {
-    arranged_edited(rt, label, 2, 0, &[1, 0], at, value)
+fn backwards(rt: &impl Print, label: &str, edits: &[(usize, u8)]) -> io::Result<()> {
+    arranged_edited(rt, label, 2, 0, &[1, 0], edits)
 }
 
 // 11 comes after every other number of the sheet check.
 pub(crate) fn other_faults(rt: &impl Print) -> io::Result<()> {
-    backwards(rt, "out of order", 2, 1)?;
-    backwards(rt, "out of order, fscod 3", 3, 3)?;
-    backwards(rt, "out of order, csnroffst 64", 11, 64)?;
-    backwards(rt, "out of order, first record's end 38", 13, 38)?;
-    backwards(rt, "out of order, first record's ba 8", 25, 8)?;
-    backwards(rt, "out of order, last record's block 0 strategy 0", 28, 0)?;
-    backwards(rt, "out of order, last record's fgaincod 8", 35, 8)?;
-    backwards(rt, "out of order, version 2", 2, 2)?;
-    backwards(rt, "out of order, length one less", 1, 34)?;
-    backwards(rt, "out of order, length one more", 1, 36)?;
-    backwards(rt, "out of order, first record cut short", 22, 255)?;
-    backwards(rt, "out of order, last record cut short", 36, 1)?;
-    arranged_edited(rt, "LFE first, its end 8", 2, 1, &[2, 0, 1], 13, 8)?;
-    arranged_edited(rt, "channels 1, 1, 0, version 2", 2, 0, &[1, 1, 0], 2, 2)
+    backwards(rt, "out of order", &[])?;
+    backwards(rt, "out of order, fscod 3", &[(3, 3)])?;
+    backwards(rt, "out of order, csnroffst 64", &[(11, 64)])?;
+    backwards(rt, "out of order, first record's end 38", &[(13, 38)])?;
+    backwards(rt, "out of order, first record's ba 8", &[(25, 8)])?;
+    backwards(
+        rt,
+        "out of order, last record's block 0 strategy 0",
+        &[(28, 0)],
+    )?;
+    backwards(rt, "out of order, last record's fgaincod 8", &[(35, 8)])?;
+    backwards(rt, "out of order, version 2", &[(2, 2)])?;
+    backwards(rt, "out of order, length one less", &[(1, 34)])?;
+    backwards(rt, "out of order, length one more", &[(1, 36)])?;
+    backwards(rt, "out of order, first record cut short", &[(22, 255)])?;
+    backwards(rt, "out of order, last record cut short", &[(36, 1)])?;
+    arranged_edited(rt, "LFE first, its end 8", 2, 1, &[2, 0, 1], &[(13, 8)])?;
+    arranged_edited(
+        rt,
+        "channels 1, 1, 0, version 2",
+        2,
+        0,
+        &[1, 1, 0],
+        &[(2, 2)],
+    )
 }
 
 // The channels of a list are the digits of its number, the first record's first, so that the numbers from 0 on go through all lists.
+// Written out: tried as `[1, 6, 36, ..].map`, where it stayed open that no divisor is 0.
 fn channels_of(number: u32) -> [u8; 6] {
     [
         (number % 6) as u8,
@@ -140,7 +149,7 @@ fn channels_of(number: u32) -> [u8; 6] {
     ]
 }
 
-fn answer_of(n: u8, lfe: u8, channels: &[u8]) -> u32
+fn answer_of(n: u8, lfe: u8, channels: &[u8]) -> Result<(), Refusal>
     requires { length channels.now ≤ 6 }
 {
     let mut bytes = [0u8; 168];
@@ -148,14 +157,11 @@ fn answer_of(n: u8, lfe: u8, channels: &[u8]) -> u32
     sheet::check_sheet(&bytes[0..size])
 }
 
-fn counted(count: u32, answer: u32, wanted: u32) -> u32
+fn counted(count: u32, answer: Result<(), Refusal>, wanted: Refusal) -> u32
     requires { count < 46656 }
     ensures { result ≤ count + 1 }
 {
-    if answer == wanted {
-        return count + 1;
-    }
-    count
+    count + u32::from(answer == Err(wanted))
 }
 
 fn show_channels(rt: &impl Print, channels: &[u8]) -> io::Result<()> {
@@ -166,8 +172,8 @@ fn show_channels(rt: &impl Print, channels: &[u8]) -> io::Result<()> {
 }
 
 // Each list that is accepted is shown.
-fn show_accepted(rt: &impl Print, answer: u32, channels: &[u8]) -> io::Result<()> {
-    if answer != 0 {
+fn show_accepted(rt: &impl Print, answer: Result<(), Refusal>, channels: &[u8]) -> io::Result<()> {
+    if answer.is_err() {
         return Ok(());
     }
     print!(rt; " accepted")?;
@@ -194,8 +200,8 @@ fn every_list(rt: &impl Print, n: u8, lfe: u8, size: usize, lists: u32) -> io::R
         let channels = channels_of(number);
         let answer = answer_of(n, lfe, &channels[0..size]);
         show_accepted(rt, answer, &channels[0..size])?;
-        out_of_order = counted(out_of_order, answer, 11);
-        out_of_range = counted(out_of_range, answer, 2);
+        out_of_order = counted(out_of_order, answer, Refusal::OutOfOrder);
+        out_of_range = counted(out_of_range, answer, Refusal::OutOfRange);
     }
     show_counts(rt, out_of_order, out_of_range)
 }

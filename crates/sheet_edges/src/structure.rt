@@ -1,30 +1,33 @@
 // Faults of the structure: the length, the version, records cut short; how many segments are counted off.
-use crate::sheets::{each, edited, edited_twice, extended, one_channel, part, six_channels};
-use sheet::read::wide;
+ghost use Rattle.std.specs.Prelude.{◌≤◌};
+
+use crate::sheets::{each, edited, extended, one_channel, part, six_channels};
 use std::io;
 
 pub(crate) fn heads(rt: &impl Print) -> io::Result<()> {
-    edited(rt, "good", 2, 1)?;
-    one_channel(rt, "one channel", 2, 1)?;
-    six_channels(rt, "six channels", 2, 1)?;
-    edited(rt, "length one less", 1, 69)?;
-    edited(rt, "length one more", 1, 71)?;
-    edited(rt, "length 256 more", 0, 1)?;
+    edited(rt, "good", &[])?;
+    one_channel(rt, "one channel", &[])?;
+    six_channels(rt, "six channels", &[])?;
+    edited(rt, "length one less", &[(1, 69)])?;
+    edited(rt, "length one more", &[(1, 71)])?;
+    edited(rt, "length 256 more", &[(0, 1)])?;
     each(rt, "version", 2, &[0, 1, 2, 255])
 }
 
 // The first 2 + n bytes, with the length as it was and with one that matches.
-fn cut(rt: &impl Print, n: u8) -> io::Result<()> {
-    let size = 2 + wide(n);
+fn cut(rt: &impl Print, n: u8) -> io::Result<()>
+    requires { n ≤ 78 }
+{
+    let size = 2 + usize::from(n);
     print!(rt; "cut after {size}")?;
-    part(rt, ", length as it was", 1, 70, 1, 70, size)?;
+    part(rt, ", length as it was", &[], size)?;
     print!(rt; "cut after {size}")?;
-    part(rt, ", length to match", 1, n, 1, n, size)
+    part(rt, ", length to match", &[(1, n)], size)
 }
 
 pub(crate) fn cuts(rt: &impl Print) -> io::Result<()> {
-    part(rt, "no byte", 1, 70, 1, 70, 0)?;
-    part(rt, "one byte", 1, 70, 1, 70, 1)?;
+    part(rt, "no byte", &[], 0)?;
+    part(rt, "one byte", &[], 1)?;
     for n in 0..71 {
         cut(rt, n)?;
     }
@@ -57,12 +60,12 @@ pub(crate) fn long_sheets(rt: &impl Print) -> io::Result<()> {
 
 // The structure is looked at before any range.
 pub(crate) fn two_faults(rt: &impl Print) -> io::Result<()> {
-    edited_twice(rt, "fscod 3, end 38", 3, 3, 13, 38)?;
-    edited_twice(rt, "version 2, fscod 3", 2, 2, 3, 3)?;
-    edited_twice(rt, "version 2, end 38", 2, 2, 13, 38)?;
-    edited_twice(rt, "length one more, fscod 3", 1, 71, 3, 3)?;
-    edited_twice(rt, "record cut short, fscod 3", 71, 1, 3, 3)?;
-    edited_twice(rt, "record cut short, channel 1 twice", 71, 1, 12, 1)?;
-    edited_twice(rt, "nseg 255 of the LFE, end 38", 71, 255, 13, 38)?;
-    edited_twice(rt, "version 2, channel 1 twice", 2, 2, 12, 1)
+    edited(rt, "fscod 3, end 38", &[(3, 3), (13, 38)])?;
+    edited(rt, "version 2, fscod 3", &[(2, 2), (3, 3)])?;
+    edited(rt, "version 2, end 38", &[(2, 2), (13, 38)])?;
+    edited(rt, "length one more, fscod 3", &[(1, 71), (3, 3)])?;
+    edited(rt, "record cut short, fscod 3", &[(71, 1), (3, 3)])?;
+    edited(rt, "record cut short, channel 1 twice", &[(71, 1), (12, 1)])?;
+    edited(rt, "nseg 255 of the LFE, end 38", &[(71, 255), (13, 38)])?;
+    edited(rt, "version 2, channel 1 twice", &[(2, 2), (12, 1)])
 }

@@ -1,4 +1,4 @@
-use mathlib.Core.Path.{◌≡◌}
+use mathlib.Core.Path.{◌≡◌, refl}
 use native.Mathlib.Omega.{arith}
 use lib.ListN.{length-set}
 use Rattle.excitation.specs.FrontLaws.{front-none, front-more}
@@ -7,7 +7,7 @@ use Rattle.allocation.proofs.bap.band_bases.Invariants.{base}
 use Rattle.allocation.proofs.bap.band_bases.Goals as goal
 
 pub loop-band-init : goal.loop-band-init
-loop-band-init c = (omega arith, front-none _ _, c.requires.bands_bound.1)
+loop-band-init c = (omega arith, front-none _ _, refl)
 
 pub band_base-requires : goal.band_base-requires
 band_base-requires c =
@@ -18,10 +18,7 @@ pub loop-band-preserved : goal.loop-band-preserved
 unfolding base
 loop-band-preserved c =
     let l = c.loop-band.invariant in
-    (omega arith, front-more _ _ _ _ _ (omega (arith, c.requires.bands_bound)) l.1 c.band_base.ensures, rw length-set l.2)
-
-pub shape_of-bases : goal.shape_of-bases
-shape_of-bases c = omega (arith, c.loop-band.invariant.2, c.requires.bands_bound.1)
+    (omega arith, front-more _ _ _ _ _ (omega (arith, c.loop-band-test.true, c.requires.bands_bound, l.2)) l.1 c.band_base.ensures, rw length-set l.2)
 
 pub returns : goal.returns
 unfolding base base_by held_base

@@ -10,11 +10,6 @@ loop-i-init c =
     let a = c.args in
     (tab-start (λ (k : ℕ). get_or a.window.now (a.base - 4 * get_or a.exp.now k 0) 0) a.bap.now, omega arith, refl)
 
-pub pointer-requires : goal.pointer-requires
-pointer-requires c =
-    let r = c.requires in
-    (r.exp_len.1, r.exp_len.2, r.exp_len.3, r.by_index _ (omega arith))
-
 pub loop-i-smaller : goal.loop-i-smaller
 loop-i-smaller c = rw length-set (omega arith)
 
@@ -23,7 +18,7 @@ loop-i-preserved c =
     let l = c.loop-i.invariant in
     let a = c.args in
     let f : ℕ → ℕ = λ k. get_or a.window.now (a.base - 4 * get_or a.exp.now k 0) 0 in
-    (tab-more f _ _ _ c.loop-i-test.true l.0 c.pointer.ensures, rw length-set (omega arith), rw length-set l.2)
+    (tab-more f _ _ _ (omega (arith, c.loop-i-test.true, l.2)) l.0 (rw c.from.ensures refl), rw length-set (omega (arith, c.loop-i-test.true, l.2)), rw length-set l.2)
 
 pub shape_of-bap : goal.shape_of-bap
 shape_of-bap c = c.loop-i.invariant.2

@@ -1,85 +1,60 @@
 use Prim.Native.Nat.{◌-◌, ◌≤◌}
-use mathlib.Core.Path.{ap, ◌∙◌}
+use mathlib.Core.Path.{◌≡◌, sym, ap, ◌∙◌}
+use Rattle.std.proofs.Common.{take_all}
 use native.Mathlib.Omega.{arith}
 use lib.ListN.{length, take, drop}
+use Rattle.tables.specs.Bands.{bndtab}
+use Rattle.tables.specs.Entry.{entry}
+use Rattle.excitation.specs.BandPsd.{lastbin}
 use Rattle.excitation.specs.BandOrder.{NextBin}
-use Rattle.excitation.specs.BandOrderLaws.{ends_at, next-bounds}
-use Rattle.allocation.proofs.Filling.{length-window, filled-start, filled_more, filled-end, part-lengths, part-exponents, windows-read}
+use Rattle.excitation.specs.BandOrderLaws.{starts_at, ends_at, next-bounds}
+use Rattle.allocation.proofs.Filling.{length-window, filled-start, filled_more, filled-there, filled-end, part-lengths, part-exponents, windows-read}
 use Rattle.allocation.proofs.bap.fill_joined.Goals as goal
 use Rattle.allocation.proofs.bap.fill_joined.Goals.{After-band_end-next}
 
--- where the band ends
-next_of : (c : After-band_end-next) → NextBin c.args.end c.loop-bin.band c.loop-bin.bin c.band_end-next.result
-next_of c =
-    let taken = c.loop-bin-test.true in
-    let h = c.loop-bin.invariant.here taken in
-    let r = c.requires in
-    next-bounds _ _ _ _ h.0 h.1 taken r.le_end.1 (ends_at _ _ _ _ _ h.1 r.window_value.1 c.band_end-next.ensures)
+-- where the band starts and ends
+start_of : (c : After-band_end-next) → c.from-bin.result ≡ entry bndtab c.loop-band.band
+start_of c = starts_at _ _ _ c.bndtab-bndtab.ensures c.from-bin.ensures
 
-pub loop-bin-init : goal.loop-bin-init
-loop-bin-init c = filled-start _ _ _ c.requires.le_end.0 c.requires.bap_value
+end_of : (c : After-band_end-next) → c.band_end-next.result ≡ lastbin (length c.args.exp.now) c.loop-band.band
+end_of c = ends_at _ _ _ _ _ (start_of c) c.bndsz-bndsz.ensures c.band_end-next.ensures
 
-pub bounds-bndsz-band : goal.bounds-bndsz-band
-bounds-bndsz-band c = omega (arith, (c.loop-bin.invariant.here c.loop-bin-test.true).0)
+next_of : (c : After-band_end-next) → NextBin (length c.args.exp.now) c.loop-band.band c.from-bin.result c.band_end-next.result
+next_of c = next-bounds _ _ _ _ c.loop-band-test.true (start_of c) c.if-exp-bin.false c.requires.exp_len.1 (end_of c)
 
-pub slice_bounds-fill_band-count : goal.slice_bounds-fill_band-count
-slice_bounds-fill_band-count c = omega (arith, next_of c)
-
-pub slice_bounds-fill_band-start : goal.slice_bounds-fill_band-start
-slice_bounds-fill_band-start c = omega (arith, next_of c)
-
-pub slice_bounds-fill_band-end : goal.slice_bounds-fill_band-end
-slice_bounds-fill_band-end c = omega (arith, next_of c, c.requires.le_end)
-
-pub offset_bounds-bases-band : goal.offset_bounds-bases-band
-offset_bounds-bases-band c = omega (arith, (c.loop-bin.invariant.here c.loop-bin-test.true).0)
-
-pub bounds-bases-band : goal.bounds-bases-band
-bounds-bases-band c = omega (arith, (c.loop-bin.invariant.here c.loop-bin-test.true).0)
-
-pub overflow_cast-bases : goal.overflow_cast-bases
-overflow_cast-bases c = omega (arith, c.requires.band_bases.2 c.loop-bin.band)
-
-pub slice_bounds-fill_band-count-in-loop-bin : goal.slice_bounds-fill_band-count-in-loop-bin
-slice_bounds-fill_band-count-in-loop-bin c = omega (arith, next_of (goal.at.slice_bounds-fill_band-count-in-loop-bin c).After-band_end-next)
-
-pub slice_bounds-fill_band-start-in-loop-bin : goal.slice_bounds-fill_band-start-in-loop-bin
-slice_bounds-fill_band-start-in-loop-bin c = omega (arith, next_of (goal.at.slice_bounds-fill_band-start-in-loop-bin c).After-band_end-next)
-
-pub slice_bounds-fill_band-end-in-loop-bin : goal.slice_bounds-fill_band-end-in-loop-bin
-slice_bounds-fill_band-end-in-loop-bin c = omega (arith, next_of (goal.at.slice_bounds-fill_band-end-in-loop-bin c).After-band_end-next, c.loop-bin.invariant.same_length, c.requires.le_end)
+pub loop-band-init : goal.loop-band-init
+loop-band-init c = filled-start _ _ _ c.requires.exp_len.0 c.requires.bap_value
 
 pub fill_band-requires : goal.fill_band-requires
 fill_band-requires c =
-    let turn = c.loop-bin in
+    let turn = c.loop-band in
     let r = c.requires in
     let n = next_of (goal.at.fill_band-requires c).After-band_end-next in
-    let h = (turn.invariant.here c.loop-bin-test.true).0 in
     let b = r.band_bases in
-    let room : c.args.end ≤ length turn.bap = omega (arith, r.le_end, turn.invariant.same_length) in record {
-      exp_len = (part-lengths _ _ _ _ _ n.middle r.le_end.2 room, ap length r.window_value.0 ∙ length-window, b.1 turn.band h, b.2 turn.band);
-      by_index = part-exponents _ turn.bap _ _ _ n.middle r.le_end.2 room r.by_index;
+    let room : length c.args.exp.now ≤ length turn.bap = omega (arith, r.exp_len, turn.invariant.same_length) in record {
+      exp_len = (part-lengths _ _ _ _ _ n.middle (omega arith) room, ap length c.window-table.ensures ∙ length-window, rw c.from.ensures (b.1 turn.band c.loop-band-test.true), rw c.from.ensures (b.2 turn.band));
+      by_index = part-exponents _ turn.bap _ _ _ n.middle (omega arith) room r.by_index;
     }
 
-pub overflow_add-band : goal.overflow_add-band
-overflow_add-band c = omega (arith, (c.loop-bin.invariant.here c.loop-bin-test.true).0)
-
-pub loop-bin-smaller : goal.loop-bin-smaller
-loop-bin-smaller c = omega (arith, next_of (goal.at.loop-bin-smaller c).After-band_end-next)
-
-pub loop-bin-preserved : goal.loop-bin-preserved
-loop-bin-preserved c =
-    let turn = c.loop-bin in
-    let taken = c.loop-bin-test.true in
+pub loop-band-preserved : goal.loop-band-preserved
+loop-band-preserved c =
+    let turn = c.loop-band in
     let r = c.requires in
-    let tables = r.window_value in
-    let ended = c.band_end-next in
-    let n = ends_at _ _ _ _ _ (turn.invariant.here taken).1 tables.1 ended.ensures in
-    filled_more _ _ _ _ r.le_end.1 r.le_end.3 _ _ _ _ _ turn.invariant taken n
-    (windows-read _ _ _ (take (ended.result - turn.bin) (drop turn.bin c.args.exp.now)) _ tables.0 c.fill_band.ensures)
+    let a = (goal.at.loop-band-preserved c).After-band_end-next in
+    filled_more _ _ _ _ r.exp_len.1 (omega (arith, r.exp_len.2)) _ _ _ _ _ turn.invariant turn.auto.band c.loop-band-test.true (start_of a) c.if-exp-bin.false (end_of a)
+    (windows-read _ _ _ (take (c.band_end-next.result - c.from-bin.result) (drop c.from-bin.result c.args.exp.now)) _ c.window-table.ensures (rw c.from.ensures at c.fill_band.ensures))
 
 pub shape_of-bap : goal.shape_of-bap
-shape_of-bap c = c.loop-bin.invariant.same_length
+shape_of-bap c = c.loop-band.invariant.same_length
+
+pub returns-then-exp-bin : goal.returns-then-exp-bin
+returns-then-exp-bin c =
+    let q : c.from-bin.result ≡ entry bndtab c.loop-band.band = starts_at _ _ _ c.bndtab-bndtab.ensures c.from-bin.ensures in
+    let i = c.loop-band.invariant in
+    sym (take_all _ _ (omega (arith, i.same_length, c.requires.exp_len.2))) ∙ filled-there _ _ _ _ _ i (omega arith) (omega arith) (omega (arith, c.if-exp-bin.true))
 
 pub returns : goal.returns
-returns c = filled-end _ _ _ _ _ _ c.loop-bin.invariant c.loop-bin-test.false
+returns c =
+    let e : c.loop-band.band ≡ 50 = omega arith in
+    let i = c.loop-band.invariant in
+    sym (take_all _ _ (omega (arith, i.same_length, c.requires.exp_len.2))) ∙ filled-end _ _ _ _ c.requires.exp_len.1 (rw e at i)

@@ -1,16 +1,20 @@
 -- Each way out is a law of AnswerLaws.antt; a refused call leaves the slice, an accepted one fills it.
-use mathlib.Core.Path.{sym, ◌∙◌}
-use native.Mathlib.Omega.{arith}
+use Rattle.std.proofs.Common.{◌≡◌, sym, ◌∙◌, Result, Ok, Err}
+use Rattle.bits.specs.declared.refusal.Refusal.{Refusal}
 use Rattle.bits.specs.Tests.{held_false, held_true}
 use Rattle.allocation.specs.AnswerLaws.{range-held, lengths-held, exponents-held, answer-range, answer-length, answer-exponent, answer-accepted, accepted-allocates, refused-leaves}
 use Rattle.allocation.proofs.channel.compute_bap.Goals as goal
+
+-- a refusal is no acceptance
+err-not-ok : {k : Refusal} → ◌≡◌ {A = Result Unit Refusal} (Err k) (Ok tt) → ⊥
+err-not-ok e = cc
 
 pub returns-then-not-in_range : goal.returns-then-not-in_range
 returns-then-not-in_range c =
     let e = answer-range _ _ _ c.args.exp.now _ (held_false c.in_range.ensures c.if-not-in_range.true) in
     record {
       value = sym e;
-      bap_after = sym (refused-leaves _ _ _ _ _ (λ q. omega (arith, e, q)));
+      bap_after = sym (refused-leaves _ _ _ _ _ (λ q. err-not-ok (sym e ∙ q)));
     }
 
 pub returns-then-not-right_lengths : goal.returns-then-not-right_lengths
@@ -19,7 +23,7 @@ returns-then-not-right_lengths c =
     let e = answer-length _ _ _ _ _ a (held_false c.right_lengths.ensures c.if-not-right_lengths.true) in
     record {
       value = sym e;
-      bap_after = sym (refused-leaves _ _ _ _ _ (λ q. omega (arith, e, q)));
+      bap_after = sym (refused-leaves _ _ _ _ _ (λ q. err-not-ok (sym e ∙ q)));
     }
 
 pub exponents_fit-requires : goal.exponents_fit-requires
@@ -32,7 +36,7 @@ returns-then-not-exponents_fit c =
     let e = answer-exponent _ _ _ _ _ a b (held_false c.exponents_fit.ensures c.if-not-exponents_fit.true) in
     record {
       value = sym e;
-      bap_after = sym (refused-leaves _ _ _ _ _ (λ q. omega (arith, e, q)));
+      bap_after = sym (refused-leaves _ _ _ _ _ (λ q. err-not-ok (sym e ∙ q)));
     }
 
 pub allocate-requires : goal.allocate-requires

@@ -1,19 +1,13 @@
-use mathlib.Core.Path.{◌≡◌}
-use native.Mathlib.Numerals.{add-one}
-use native.Mathlib.Omega.{arith}
-use borrow.Author.Rules.{rules}
+use Rattle.std.proofs.Common.{sym, ℕ, leb, take_all}
+use Rattle.std.proofs.lemmas.List.Folds.{list_all_more}
 use Rattle.allocation.specs.Allocation.{exponents_fit}
 use Rattle.allocation.proofs.ranges.exponents_fit.Goals as goal
 
-pub loop-bin-init : goal.loop-bin-init
-unfolding exponents_fit
-loop-bin-init c = search rules
-
-pub loop-bin-preserved : goal.loop-bin-preserved
-unfolding exponents_fit
-loop-bin-preserved c = (omega arith, rw (add-one, c.loop-bin.invariant.1))
+pub loop-e-preserved : goal.loop-e-preserved
+loop-e-preserved c =
+    let l = c.loop-e in
+    rw l.invariant (sym (list_all_more (λ (e : ℕ). leb e 24) _ l.e-index 0 c.loop-e-test.true))
 
 pub returns : goal.returns
-returns c =
-    let e : c.loop-bin.bin ≡ c.args.end = omega arith in
-    cc
+unfolding exponents_fit
+returns c = let l = c.loop-e in rw (take_all _ _ c.loop-e-test.false) at l.invariant

@@ -1,11 +1,7 @@
 -- All exponents before the present one are at most 24.
-use Prim.Native.Nat.{◌-◌, ◌≤◌}
-use mathlib.Core.Path.{◌≡◌}
-use Rattle.allocation.specs.Allocation.{exponents_fit}
+use Rattle.std.proofs.Common.{◌≡◌, take, leb, ℕ}
+use Rattle.std.specs.List.{list_all}
 use Rattle.allocation.proofs.ranges.exponents_fit.Given as goal
 
-abbrev pub invariant-loop-bin : goal.invariant-loop-bin
-invariant-loop-bin l = (l.bin ≤ l.end) × (l.all ≡ exponents_fit l.exp l.bin)
-
-abbrev pub decreases-loop-bin : goal.decreases-loop-bin
-decreases-loop-bin l = l.end - l.bin
+abbrev pub invariant-loop-e : goal.invariant-loop-e
+invariant-loop-e l = l.all ≡ list_all (λ (e : ℕ). leb e 24) (take l.e-index (take l.end l.exp))

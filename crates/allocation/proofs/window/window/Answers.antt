@@ -1,8 +1,5 @@
 -- 111 zeros, BAPTAB, and 15 from its end on.
-use mathlib.Core.List.{List, [], ◌++◌}
-use mathlib.Core.Path.{◌≡◌, ◌∙◌}
-use Prim.Native.Nat.{ℕ}
-use lib.ListN.{replicate}
+use Rattle.std.proofs.Common.{List, [], ◌++◌, ◌≡◌, ℕ, replicate, ◌∙◌}
 use Rattle.tables.specs.Quantizer.{baptab}
 use Rattle.allocation.specs.Held.{window}
 use Rattle.allocation.proofs.window.window.Goals as goal
@@ -12,5 +9,4 @@ unfolding window
 laid table tail e f = rw (e, f)
 
 pub returns : goal.returns
-returns c =
-    laid _ _ (c.copy.ensures ∙ c.baptab_table-baptab.ensures) c.fill.ensures
+returns c = laid _ _ (c.copy_from_slice.ensures.after ∙ c.baptab.ensures) (c.fill.ensures.after (λ y e. e))

@@ -9,4 +9,4 @@ unfolding stepped_lowcomp
 returns-then-b0-b1 c = simp (eq-eqb _ _ c.if-b0-b1.true)
 
 pub returns-else-b0-b1 : goal.returns-else-b0-b1
-returns-else-b0-b1 c = fallen _ _ _ _ _ c.requires.0 c.requires.1 c.less-down.ensures c.if-b0-b1.false
+returns-else-b0-b1 c = fallen _ _ _ _ _ c.requires.0 c.requires.1 c.saturating_sub-down.ensures c.if-b0-b1.false

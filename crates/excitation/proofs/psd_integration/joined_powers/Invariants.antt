@@ -1,10 +1,7 @@
 -- Each turn joins the bins of one band: the laws of Joining.antt.
-use Prim.Native.Nat.{◌-◌}
+use lib.ListN.{length}
 use Rattle.excitation.proofs.Joining.{Joined}
 use Rattle.excitation.proofs.psd_integration.joined_powers.Given as goal
 
-abbrev pub invariant-loop-bin : goal.invariant-loop-bin
-invariant-loop-bin l = Joined l.exp l.end l.initial.powers l.band l.bin l.powers
-
-abbrev pub decreases-loop-bin : goal.decreases-loop-bin
-decreases-loop-bin l = l.end - l.bin
+abbrev pub invariant-loop-band : goal.invariant-loop-band
+invariant-loop-band l = Joined l.exp (length l.exp) l.initial.powers l.band l.powers

@@ -1,63 +1,48 @@
 -- A group with no pads is worked out from its four exponents, the last one span by span: the number is the definition's group.
 use mathlib.Core.Path.{◌∙◌}
-use Rattle.shaping.specs.GroupsLaws.{span-bounds}
+use Prim.Native.Nat.{◌-◌}
+use mathlib.Core.Path.{◌≡◌}
+use Rattle.elements.specs.Strategy.{grpsize}
+use Rattle.elements.specs.StrategyLaws.{grpsize-least}
 use Rattle.exponents.proofs.Coding.{whole-near, whole_is, first-near, second-near, third-near, group-is}
 use native.Mathlib.Omega.{arith}
 use Rattle.exponents.proofs.groups.group_at.Goals as goal
 
-pub overflow_mul-p : goal.overflow_mul-p
-overflow_mul-p c = omega (arith, span-bounds c.args.grpsize c.requires.grpsize_value.0)
-
-pub overflow_mul-last : goal.overflow_mul-last
-overflow_mul-last c = omega (arith, span-bounds c.args.grpsize c.requires.grpsize_value.0)
-
-pub overflow_add-last : goal.overflow_add-last
-overflow_add-last c = omega (arith, span-bounds c.args.grpsize c.requires.grpsize_value.0)
-
 pub whole_group-requires : goal.whole_group-requires
 whole_group-requires c =
-    let given = c.requires in
     let a = c.args in
-    whole-near a.grpsize a.end a.exp.now a.i (span-bounds a.grpsize given.grpsize_value.0).0 given.shaped (omega arith) (omega arith) (omega arith)
+    let e = c.grpsize-grpsize.ensures in
+    let t = rw e at c.if-last-end.true in
+    rw e (whole-near (grpsize a.strategy) a.end a.exp.now a.i (grpsize-least a.strategy) c.requires.shaped (omega arith) t)
 
 pub returns-then-last-end : goal.returns-then-last-end
 returns-then-last-end c =
-    let given = c.requires in
     let a = c.args in
-    c.whole_group.ensures ∙ whole_is a.grpsize a.end a.exp.now a.i (span-bounds a.grpsize given.grpsize_value.0).0 given.shaped (omega arith) (omega arith) (omega arith)
+    let e = c.grpsize-grpsize.ensures in
+    let t = rw e at c.if-last-end.true in
+    (rw e at c.whole_group.ensures) ∙ whole_is (grpsize a.strategy) a.end a.exp.now a.i (grpsize-least a.strategy) c.requires.shaped (omega arith) t
 
-pub span_at-first-requires : goal.span_at-first-requires
-span_at-first-requires c =
-    let given = c.requires in
+pub difference_at-requires-clause-near : goal.difference_at-requires-clause-near
+difference_at-requires-clause-near c =
     let a = c.args in
-    record {
-      end_in_bounds = omega arith;
-      near = first-near a.grpsize a.end a.exp.now a.i (span-bounds a.grpsize given.grpsize_value.0).0 given.shaped (omega arith) (omega arith);
-    }
+    let z : a.end - 0 ≡ a.end = omega arith in
+    rw (z, c.grpsize-grpsize.ensures) (first-near (grpsize a.strategy) a.end a.exp.now a.i (grpsize-least a.strategy) c.requires.shaped (omega arith))
 
-pub overflow_add-p-2 : goal.overflow_add-p-2
-overflow_add-p-2 c = omega (arith, span-bounds c.args.grpsize c.requires.grpsize_value.0)
-
-pub span_at-second-requires : goal.span_at-second-requires
-span_at-second-requires c =
-    let given = c.requires in
+pub difference_at-requires-2-clause-near : goal.difference_at-requires-2-clause-near
+difference_at-requires-2-clause-near c =
     let a = c.args in
-    record {
-      end_in_bounds = omega arith;
-      near = second-near a.grpsize a.end a.exp.now a.i (span-bounds a.grpsize given.grpsize_value.0).0 given.shaped (omega arith) (omega arith) _ c.span_at-first.ensures;
-    }
+    let z : a.end - 0 ≡ a.end = omega arith in
+    rw (z, c.grpsize-grpsize.ensures) (second-near (grpsize a.strategy) a.end a.exp.now a.i (grpsize-least a.strategy) c.requires.shaped (omega arith))
 
-pub span_at-third-requires : goal.span_at-third-requires
-span_at-third-requires c =
-    let given = c.requires in
+pub difference_at-requires-3-clause-near : goal.difference_at-requires-3-clause-near
+difference_at-requires-3-clause-near c =
     let a = c.args in
-    record {
-      end_in_bounds = omega arith;
-      near = third-near a.grpsize a.end a.exp.now a.i (span-bounds a.grpsize given.grpsize_value.0).0 given.shaped (omega arith) (omega arith) _ c.span_at-first.ensures _ c.span_at-second.ensures;
-    }
+    let z : a.end - 0 ≡ a.end = omega arith in
+    rw (z, c.grpsize-grpsize.ensures) (third-near (grpsize a.strategy) a.end a.exp.now a.i (grpsize-least a.strategy) c.requires.shaped (omega arith))
 
 pub returns : goal.returns
 returns c =
-    let given = c.requires in
     let a = c.args in
-    group-is a.grpsize a.end a.exp.now a.i (span-bounds a.grpsize given.grpsize_value.0).0 given.shaped (omega arith) (omega arith) _ c.span_at-first.ensures _ c.span_at-second.ensures _ c.span_at-third.ensures
+    let z : a.end - 0 ≡ a.end = omega arith in
+    let e = group-is (grpsize a.strategy) a.end a.exp.now a.i (grpsize-least a.strategy) c.requires.shaped (omega arith) in
+    rw (c.difference_at.ensures.0, c.difference_at-2.ensures.0, c.difference_at-3.ensures.0, z, c.grpsize-grpsize.ensures) e

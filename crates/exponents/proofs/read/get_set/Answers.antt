@@ -1,39 +1,29 @@
 -- The absolute value, or that it runs past the input; then the groups.
-use mathlib.Core.Path.{sym, ◌∙◌}
+use mathlib.Core.Path.{◌≡◌, sym, ◌∙◌}
+use Rattle.std.specs.Prelude.{Err}
+use Rattle.std.proofs.Common.{rules}
 use Rattle.bits.specs.Field.{bits_of}
 use Rattle.bits.specs.FieldLaws.{length-bits_of}
 use Rattle.bits.specs.ReadLaws.{found-value, found-past}
-use Rattle.exponents.proofs.Turns.{set_past, set-came}
+use Rattle.bits.specs.declared.refusal.Refusal.TheVariants as refusal
+use Rattle.exponents.proofs.Turns.{set_past, set-came, there, not-there}
 use native.Mathlib.Omega.{arith}
 use Rattle.exponents.proofs.read.get_set.Goals as goal
 
-pub returns-in_default : goal.returns-in_default
-returns-in_default c =
-    let past = found-past _ (sym c.get-got.ensures ∙ c.in_default.is) in record {
-      came = record {
-        good = λ z. absurd (omega arith);
-        bad = λ z. set_past _ _ _ past;
-        within = rw length-bits_of (omega arith);
-        later = omega arith;
-      };
-      pos_bound_2 = omega arith;
-    }
+pub returns-in_err-first-clause-came : goal.returns-in_err-first-clause-came
+returns-in_err-first-clause-came c =
+    let k : c.from_residual.result ≡ Err refusal.PastInput = search rules in
+    let past = found-past _ (sym c.get.ensures ∙ not-there _ _ _ c.in_err-first.ensures.value) in
+    rw k (set_past _ _ _ past)
 
-pub get_groups-requires : goal.get_groups-requires
-get_groups-requires c =
-    let given = c.requires in
+pub get_groups-requires-clause-pos_bound : goal.get_groups-requires-clause-pos_bound
+get_groups-requires-clause-pos_bound c =
     let x = c.args in
-    let f = found-value 4 x.pos (bits_of x.input.now) _ (sym c.get-got.ensures ∙ c.in-Value.is) in
-    record {
-      pos_bound = (omega (arith, rw length-bits_of at f.1), omega arith, omega (arith, f.2));
-      exp_value = (given.exp_value.0, given.exp_value.1);
-    }
+    let f = found-value 4 x.pos (bits_of x.input.now) _ (sym c.get.ensures ∙ there _ _ _ c.in_ok-first.ensures.value) in
+    (omega (arith, rw length-bits_of at f.1), omega arith, omega (arith, f.2))
 
-pub returns : goal.returns
-returns c =
+pub returns-clause-came : goal.returns-clause-came
+returns-clause-came c =
     let x = c.args in
-    let f = found-value 4 x.pos (bits_of x.input.now) _ (sym c.get-got.ensures ∙ c.in-Value.is) in
-    record {
-      came = set-came _ _ _ _ _ _ _ f.0 c.get_groups.ensures.came;
-      pos_bound_2 = omega arith;
-    }
+    let f = found-value 4 x.pos (bits_of x.input.now) _ (sym c.get.ensures ∙ there _ _ _ c.in_ok-first.ensures.value) in
+    set-came _ _ _ _ _ _ _ f.0 c.get_groups.ensures.came

@@ -6,29 +6,13 @@ use native.Mathlib.Omega.{arith}
 use Rattle.frame_body.proofs.count.count_body.Goals as goal
 
 pub loop-b-init : goal.loop-b-init
-loop-b-init c = (omega arith, omega arith, tab-start _ [], tab-start _ [])
-
-pub count_sets-requires : goal.count_sets-requires
-count_sets-requires c = record {
-  under = c.requires.under;
-  b_bound = c.loop-b-test.true;
-}
-
-pub count_block-requires : goal.count_block-requires
-count_block-requires c =
-    let p = c.requires in
-    record {
-      legal_settings = p.under.legal;
-      block_bound = (omega arith, omega (arith, p.bap_len.0));
-      below = p.bap_len.1.block _ c.loop-b-test.true;
-    }
+loop-b-init c = (omega arith, tab-start _ [], tab-start _ [])
 
 pub loop-b-preserved : goal.loop-b-preserved
 loop-b-preserved c =
-    let more =
-    two-more _ _ c.loop-b.counts c.loop-b.b c.loop-b.invariant.1 c.loop-b.invariant.2 c.loop-b.invariant.3 _ _ c.loop-b-test.true c.count_sets.ensures c.count_block.ensures in
-    (omega arith, more.0, more.1, more.2)
+    let l = c.loop-b in
+    two-more _ _ l.counts l.b l.invariant.0 l.invariant.1 l.invariant.2 _ _ c.loop-b-test.true c.count_sets.ensures c.count_block.ensures
 
 pub returns : goal.returns
 unfolding counts_from
-returns c = two-end _ _ c.loop-b.counts c.loop-b.b c.loop-b.invariant.1 c.loop-b.invariant.2 c.loop-b.invariant.3 (omega arith)
+returns c = let l = c.loop-b in two-end _ _ l.counts l.b l.invariant.0 l.invariant.1 l.invariant.2 (omega (arith, l.auto))

@@ -1,6 +1,5 @@
 -- After b blocks both of their counts are stored.
 use mathlib.Core.Path.{◌≡◌}
-use Prim.Native.Nat.{◌-◌, ◌≤◌}
 use lib.ListN.{length, take, drop}
 use Rattle.bits.specs.Parts.{tab}
 use Rattle.mantissas.specs.Blocks.{block_baps}
@@ -10,9 +9,6 @@ use Rattle.frame_body.proofs.count.count_body.Given as goal
 
 abbrev pub invariant-loop-b : goal.invariant-loop-b
 invariant-loop-b l =
-    (l.b ≤ 6) × (length l.counts ≡ 12)
-    × (take l.b l.counts ≡ tab l.b (sets_count l.settings))
-    × (take l.b (drop 6 l.counts) ≡ tab l.b (λ j. bit_count (block_baps l.settings l.bap j)))
-
-abbrev pub decreases-loop-b : goal.decreases-loop-b
-decreases-loop-b l = 6 - l.b
+    (length l.counts ≡ 12)
+    × (take l.b l.counts ≡ tab l.b (sets_count l.track.settings))
+    × (take l.b (drop 6 l.counts) ≡ tab l.b (λ j. bit_count (block_baps l.track.settings l.bap j)))

@@ -1,7 +1,4 @@
 -- After c channels the bits of their sets are appended.
-use mathlib.Core.Path.{◌≡◌}
-use Prim.Native.Nat.{◌-◌, ◌≤◌}
-use lib.ListN.{length}
 use Rattle.sheet.specs.Settings.{end_at, set_at}
 use Rattle.bits.specs.Parts.{joined, piece}
 use Rattle.bits.specs.Write.{Put}
@@ -9,7 +6,4 @@ use Rattle.frame.specs.Body.{set_bits}
 use Rattle.frame_body.proofs.write.put_sets.Given as goal
 
 abbrev pub invariant-loop-c : goal.invariant-loop-c
-invariant-loop-c l = (l.c ≤ l.n) × (length l.out ≡ length l.initial.out) × Put l.initial.out l.initial.w (joined l.c (λ j. set_bits (set_at l.settings l.b j) (end_at l.settings j) (piece 256 j l.row))) l.out l.w
-
-abbrev pub decreases-loop-c : goal.decreases-loop-c
-decreases-loop-c l = l.n - l.c
+invariant-loop-c l = Put l.initial.out l.initial.w (joined l.c (λ j. set_bits (set_at l.track.settings l.b j) (end_at l.track.settings j) (piece 256 j l.row))) l.out l.w

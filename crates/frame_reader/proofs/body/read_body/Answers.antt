@@ -1,59 +1,30 @@
--- Each way out in the order of the refusals, then the reading: laws of Answers.antt.
-use mathlib.Core.Path.{sym, ap, ◌∙◌}
-use native.Mathlib.Omega.{arith}
-use Rattle.bits.specs.Field.{bits_of}
-use Rattle.frame.specs.Answers.{refused}
-use Rattle.frame_reader.proofs.Answers.{held-legal, held-size, refused-sheet, refused-exps, refused-bap, refused-codes, all_read}
+-- Each way out in the order of the refusals, then the reading.
+use mathlib.Core.Path.{◌∙◌}
+use Rattle.std.proofs.lemmas.Result.{err_from_is_err_and}
+use Rattle.frame.specs.Answers.{read_answer, read_under, read_left}
+use Rattle.frame_reader.proofs.Answers.{held-size, not-readable, all-readable}
 use Rattle.frame_reader.proofs.body.read_body.Goals as goal
 
-pub returns-then-check-ne-ACCEPTED : goal.returns-then-check-ne-ACCEPTED
-returns-then-check-ne-ACCEPTED c =
-    let e = c.check_sheet-check.ensures in
-    let all = refused-sheet c.args.sheet.now (bits_of c.args.input.now) c.args.exps.now c.args.bap.now c.args.codes.now _ (c.refused.ensures ∙ ap refused e) (λ z. c.if-check-ne-ACCEPTED.true (e ∙ z)) in
-    record { value = all.0; exps_after = all.1.0; bap_after = all.1.1.0; codes_after = all.1.1.1 }
-
-pub settings_of-settings-requires : goal.settings_of-settings-requires
-settings_of-settings-requires c = sym c.check_sheet-check.ensures ∙ c.if-check-ne-ACCEPTED.false
-
-pub channels-requires : goal.channels-requires
-channels-requires c = held-legal c.args.sheet.now c.settings_of-settings.ensures (sym c.check_sheet-check.ensures ∙ c.if-check-ne-ACCEPTED.false)
-
-pub buffer_length-n-requires : goal.buffer_length-n-requires
-buffer_length-n-requires c = c.channels.ensures.most
+pub returns-in_err-track : goal.returns-in_err-track
+unfolding read_answer read_left
+returns-in_err-track c =
+    let p = err_from_is_err_and c.from_residual.result c.from_residual.ensures.1 in
+    let e = c.in_err-track.ensures in
+    record { value = rw (p.1, p.2, e); exps_after = rw e; bap_after = rw e; codes_after = rw e }
 
 pub returns-then-exps-n : goal.returns-then-exps-n
+unfolding read_answer read_under read_left
 returns-then-exps-n c =
-    let accepted = sym c.check_sheet-check.ensures ∙ c.if-check-ne-ACCEPTED.false in
-    let n = c.buffer_length-n.ensures ∙ held-size c.args.sheet.now c.settings_of-settings.ensures c.channels.ensures in
-    let all = refused-exps c.args.sheet.now (bits_of c.args.input.now) c.args.exps.now c.args.bap.now c.args.codes.now accepted _ c.refused-then-exps-n.ensures (λ z. c.if-exps-n.true (z ∙ sym n)) in
-    record { value = all.0; exps_after = all.1.0; bap_after = all.1.1.0; codes_after = all.1.1.1 }
-
-pub returns-then-bap-n : goal.returns-then-bap-n
-returns-then-bap-n c =
-    let accepted = sym c.check_sheet-check.ensures ∙ c.if-check-ne-ACCEPTED.false in
-    let n = c.buffer_length-n.ensures ∙ held-size c.args.sheet.now c.settings_of-settings.ensures c.channels.ensures in
-    let all = refused-bap c.args.sheet.now (bits_of c.args.input.now) c.args.exps.now c.args.bap.now c.args.codes.now accepted (c.if-exps-n.false ∙ n) _ c.refused-then-bap-n.ensures (λ z. c.if-bap-n.true (z ∙ sym n)) in
-    record { value = all.0; exps_after = all.1.0; bap_after = all.1.1.0; codes_after = all.1.1.1 }
-
-pub returns-then-codes-n : goal.returns-then-codes-n
-returns-then-codes-n c =
-    let accepted = sym c.check_sheet-check.ensures ∙ c.if-check-ne-ACCEPTED.false in
-    let n = c.buffer_length-n.ensures ∙ held-size c.args.sheet.now c.settings_of-settings.ensures c.channels.ensures in
-    let all = refused-codes c.args.sheet.now (bits_of c.args.input.now) c.args.exps.now c.args.bap.now c.args.codes.now accepted (c.if-exps-n.false ∙ n) (c.if-bap-n.false ∙ n) _ c.refused-then-codes-n.ensures (λ z. c.if-codes-n.true (z ∙ sym n)) in
-    record { value = all.0; exps_after = all.1.0; bap_after = all.1.1.0; codes_after = all.1.1.1 }
-
-pub read_frame-requires : goal.read_frame-requires
-read_frame-requires c =
-    let n = c.buffer_length-n.ensures in
-    let many = c.channels.ensures.is in record {
-      under = record { legal = held-legal c.args.sheet.now c.settings_of-settings.ensures (sym c.check_sheet-check.ensures ∙ c.if-check-ne-ACCEPTED.false); table = c.strategies_of-strategies.ensures };
-      exps_len = (omega (arith, n, many, c.if-exps-n.false), omega (arith, n, many, c.if-bap-n.false), omega (arith, n, many, c.if-codes-n.false));
-    }
+    let t = c.in_ok-track.ensures in
+    let n = c.buffer_length-n.ensures ∙ held-size c.args.sheet.now t.1 c.channels.ensures in
+    let e = not-readable _ _ _ _ _ n c.then-exps-n.either in
+    record { value = rw (t.0, e); exps_after = rw (t.0, e); bap_after = rw (t.0, e); codes_after = rw (t.0, e) }
 
 pub returns : goal.returns
+unfolding read_answer read_under read_left
 returns c =
-    let accepted = sym c.check_sheet-check.ensures ∙ c.if-check-ne-ACCEPTED.false in
-    let n = c.buffer_length-n.ensures ∙ held-size c.args.sheet.now c.settings_of-settings.ensures c.channels.ensures in
-    let r = rw c.settings_of-settings.ensures at c.read_frame.ensures in
-    let all = all_read c.args.sheet.now (bits_of c.args.input.now) c.args.exps.now c.args.bap.now c.args.codes.now accepted (c.if-exps-n.false ∙ n) (c.if-bap-n.false ∙ n) _ _ _ _ (c.if-codes-n.false ∙ n) r.value r.exps_after r.bap_after r.codes_after in
-    record { value = all.0; exps_after = all.1.0; bap_after = all.1.1.0; codes_after = all.1.1.1 }
+    let t = c.in_ok-track.ensures in
+    let n = c.buffer_length-n.ensures ∙ held-size c.args.sheet.now t.1 c.channels.ensures in
+    let e = all-readable _ _ _ _ _ n c.if-exps-n.false c.if-bap-n.false c.if-codes-n.false in
+    let r = rw t.1 at c.read_frame.ensures in
+    record { value = rw (t.0, e) r.value; exps_after = rw (t.0, e) r.exps_after; bap_after = rw (t.0, e) r.bap_after; codes_after = rw (t.0, e) r.codes_after }

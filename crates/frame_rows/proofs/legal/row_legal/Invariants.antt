@@ -1,6 +1,5 @@
 -- The parts before channel c are legal.
 use mathlib.Core.Path.{◌≡◌}
-use Prim.Native.Nat.{◌-◌, ◌≤◌}
 use Rattle.sheet.specs.Settings.{end_at, set_at}
 use Rattle.bits.specs.Parts.{piece}
 use Rattle.sheet.specs.Ranges.{all_below}
@@ -8,7 +7,4 @@ use Rattle.frame.specs.Legal.{part_legal}
 use Rattle.frame_rows.proofs.legal.row_legal.Given as goal
 
 abbrev pub invariant-loop-c : goal.invariant-loop-c
-invariant-loop-c l = (l.c ≤ l.n) × (l.all ≡ all_below l.c (λ j. part_legal (set_at l.settings l.b j) (end_at l.settings j) (piece 256 j l.old) (piece 256 j l.row)))
-
-abbrev pub decreases-loop-c : goal.decreases-loop-c
-decreases-loop-c l = l.n - l.c
+invariant-loop-c l = l.all ≡ all_below l.c (λ j. part_legal (set_at l.track.settings l.b j) (end_at l.track.settings j) (piece 256 j l.old) (piece 256 j l.row))

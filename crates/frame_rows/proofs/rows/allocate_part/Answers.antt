@@ -5,17 +5,14 @@ use Rattle.frame.specs.Under.{channel-known}
 use Rattle.sheet.proofs.SettingsLaws.{channels-bounds}
 use Rattle.frame_rows.proofs.rows.allocate_part.Goals as goal
 
-pub end_at-end-requires : goal.end_at-end-requires
-end_at-end-requires c = (c.requires.legal_settings, c.requires.part_ready.there)
-
 pub record_at-channel-requires : goal.record_at-channel-requires
-record_at-channel-requires c = omega (arith, channels-bounds c.requires.legal_settings, c.requires.part_ready.there)
+record_at-channel-requires c = omega (arith, channels-bounds c.args.track.now.legal, c.requires.part_ready.there)
 
 pub allocate-requires : goal.allocate-requires
 allocate-requires c =
     let g = c.args in
     let p = c.requires in
-    let known = channel-known g.settings p.legal_settings g.c p.part_ready.there in
+    let known = channel-known g.track.now.settings g.track.now.legal g.c p.part_ready.there in
     let end = c.end_at-end.ensures in record {
       legal_codes = rw c.record_at-channel.ensures known.codes;
       legal_bins = record {
@@ -27,8 +24,8 @@ allocate-requires c =
       };
     }
 
-pub returns-in-Reuse : goal.returns-in-Reuse
-returns-in-Reuse c = c.requires.part_ready.kept c.in-Reuse.is
+pub returns-in_default : goal.returns-in_default
+returns-in_default c = c.requires.part_ready.kept c.in_default.is
 
 pub returns-in-New : goal.returns-in-New
 unfolding bap_part

@@ -1,21 +1,20 @@
-use mathlib.Core.Bool.{true, false}
-use mathlib.Core.Path.{refl, sym, ◌∙◌}
-use native.Mathlib.Omega.{arith}
-use lib.ListN.{drop_of_length-le}
+use mathlib.Core.Bool.{Bool, ◌&&◌}
+use mathlib.Core.List.{List, [], ◌∷◌}
+use mathlib.Core.Path.{◌≡◌, refl, ap, ◌∙◌}
 use borrow.Author.Rules.{rules}
+use borrow.Author.Tests.{tests}
+use lib.Ieee.{Float}
+use lib.Ieee.Scale.{finite}
+use Rattle.std.specs.List.{list_all}
+use Rattle.std.proofs.lemmas.Iterator.{YieldsList-from_slice}
+use Rattle.std.proofs.lemmas.Iterator.Search.{all_from_yields_List}
 use Rattle.frame_runs.specs.Finite.{finite_part}
-use Rattle.frame_runs.proofs.Bins.{finite-step}
 use Rattle.frame_runs.proofs.finite.part_finite.Goals as goal
 
-pub loop-i-init : goal.loop-i-init
-loop-i-init c = (omega arith, refl)
-
-pub returns-then-not-is_finite : goal.returns-then-not-is_finite
-returns-then-not-is_finite c = sym (finite-step c.args.part.now c.loop-i.i false c.loop-i-test.true (sym c.if-not-is_finite.true ∙ c.is_finite.ensures)) ∙ c.loop-i.invariant.1
-
-pub loop-i-preserved : goal.loop-i-preserved
-loop-i-preserved c = (search rules, sym (finite-step c.args.part.now c.loop-i.i true c.loop-i-test.true (sym c.if-not-is_finite.false ∙ c.is_finite.ensures)) ∙ c.loop-i.invariant.1)
+each-finite : (xs : List Float) → list_all finite xs ≡ finite_part xs
+unfolding finite_part
+each-finite [] = refl
+each-finite (x ∷ xs) = ap (λ (t : Bool). finite x && t) (each-finite xs)
 
 pub returns : goal.returns
-unfolding finite_part
-returns c = rw (drop_of_length-le c.args.part.now c.loop-i-test.false) at c.loop-i.invariant.1
+returns c = all_from_yields_List finite _ _ _ c.all.ensures.ran (YieldsList-from_slice c.args.part.now c.iter.ensures.rest) (λ x b q k. search (rules, tests)) ∙ each-finite c.args.part.now

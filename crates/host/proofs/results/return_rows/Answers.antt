@@ -3,17 +3,12 @@ use mathlib.Core.Path.{◌≡◌, refl, ◌∙◌}
 use mathlib.Core.List.{[]}
 use native.Mathlib.Omega.{arith}
 use lib.ListN.{length}
-use Rattle.bits.specs.PartsLaws.{part-long, fill_start, fill_more, fill-length, fill_end}
+use Rattle.bits.specs.PartsLaws.{part-long, fill_start, fill_more, fill_end}
 use Rattle.host.specs.Entries.{rows_of}
 use Rattle.host.proofs.results.return_rows.Goals as goal
 
 pub loop-c-init : goal.loop-c-init
-loop-c-init c = (omega arith, refl, fill_start 6 0 _ [] refl)
-
-pub return_row-requires : goal.return_row-requires
-return_row-requires c =
-    let i = c.loop-c.c in
-    part-long 6 i (6 * i) (6 * i + 6 - 6 * i) c.loop-c.slot refl (omega arith) (omega arith)
+loop-c-init c = fill_start 6 0 _ [] refl
 
 pub loop-c-preserved : goal.loop-c-preserved
 loop-c-preserved c =
@@ -22,14 +17,11 @@ loop-c-preserved c =
     let y = c.return_row.new.slot in
     let k : 6 * i + 6 - 6 * i ≡ 6 = omega arith in
     let h : 6 * i + 6 ≤ length l.slot = omega arith in
-    let n : length y ≡ 6 = c.return_row.auto.slot ∙ part-long 6 i (6 * i) (6 * i + 6 - 6 * i) l.slot refl k h in (
-      omega arith,
-      fill-length 6 i (6 * i) (6 * i + 6 - 6 * i) l.slot y refl k h n ∙ l.invariant.1,
-      fill_more 6 i (6 * i) (6 * i + 6 - 6 * i) _ l.slot y refl k h n l.invariant.2 c.return_row.ensures,
-    )
+    let n : length y ≡ 6 = c.return_row.auto.slot ∙ part-long 6 i (6 * i) (6 * i + 6 - 6 * i) l.slot refl k h in
+    fill_more 6 i (6 * i) (6 * i + 6 - 6 * i) _ l.slot y refl k h n l.invariant c.return_row.ensures
 
 pub returns : goal.returns
 unfolding rows_of
 returns c =
     let l = c.loop-c in
-    fill_end 6 l.c _ _ l.slot (omega arith) (omega arith) l.invariant.2
+    fill_end 6 l.c _ _ l.slot (omega arith) (omega arith) l.invariant

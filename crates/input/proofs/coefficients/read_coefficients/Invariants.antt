@@ -1,15 +1,11 @@
 -- Each entry is the coefficient of its four bytes.
-use Prim.Native.Nat.{◌-◌, ◌*◌, ◌≤◌}
+use Prim.Native.Nat.{◌*◌}
 use mathlib.Core.Path.{◌≡◌}
-use lib.ListN.{length, take}
+use lib.ListN.{take}
 use Rattle.bits.specs.Parts.{tab}
 use Rattle.shaping.specs.Pattern.{coefficient}
 use Rattle.input.specs.Input.{pattern_at}
 use Rattle.input.proofs.coefficients.read_coefficients.Given as goal
 
 abbrev pub invariant-loop-i : goal.invariant-loop-i
-invariant-loop-i l =
-    (l.i ≤ length l.initial.coeffs) × (length l.coeffs ≡ length l.initial.coeffs) × (take l.i l.coeffs ≡ tab l.i (λ k. coefficient (pattern_at l.bytes (4 * k))))
-
-abbrev pub decreases-loop-i : goal.decreases-loop-i
-decreases-loop-i l = l.i-end - l.i
+invariant-loop-i l = take l.i l.coeffs ≡ tab l.i (λ k. coefficient (pattern_at l.bytes (4 * k)))

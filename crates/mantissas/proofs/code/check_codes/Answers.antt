@@ -1,37 +1,37 @@
-use mathlib.Core.Path.{◌∙◌}
-use lib.ListN.{get_or}
+-- Every pair passes a test that looks the levels up; below 16 they are the bap's.
+use Rattle.std.specs.Prelude.{◌≡◌, refl, ℕ, Bool, true, false, ◌&&◌, List, [], ◌∷◌, length, get_or, ltb}
+use Rattle.std.proofs.Common.{rules, ap, ◌∙◌, arith}
+use Rattle.std.specs.List.{list_all, zip}
+use borrow.Author.Tests.{tests}
+use Rattle.std.proofs.lemmas.Bool.{ltb-true}
+use Rattle.std.proofs.lemmas.Iterator.{YieldsList-from_slice, YieldsList-from_zip}
+use Rattle.std.proofs.lemmas.Iterator.Search.{all_from_yields_List}
+use Rattle.mantissas.specs.Inner.{LevelTable}
+use Rattle.mantissas.specs.Ranges.{levels}
+use Rattle.mantissas.specs.Stream.{coded}
 use Rattle.mantissas.proofs.Arrays.{level-listed}
-use Rattle.mantissas.proofs.Checking.{coded-start, coded-next, coded-bap, coded-code, coded-end}
-use native.Mathlib.Omega.{arith}
-use borrow.Author.Rules.{rules}
 use Rattle.mantissas.proofs.code.check_codes.Goals as goal
 
-pub loop-i-init : goal.loop-i-init
-loop-i-init c = (coded-start _ _, omega arith, search rules, c.level_table-levels.ensures)
+abbrev passes : List ℕ → ℕ × ℕ → Bool
+passes table p = ltb p.0 16 && ltb p.1 (get_or table p.0 0)
 
-pub returns-then-b-ge16 : goal.returns-then-b-ge16
-returns-then-b-ge16 c =
-    let l = c.loop-i in
-    coded-bap _ _ _ c.loop-i-test.true (search rules) c.if-b-ge16.true ∙ l.invariant.0
+of_bap : (b c n : ℕ) (low rest : Bool) → (low ≡ true → n ≡ levels b) → ((low && ltb c n) && rest) ≡ (low && (ltb c (levels b) && rest))
+of_bap b c n false rest e = refl
+of_bap b c n true rest e = ap (λ k. ltb c k && rest) (e refl)
 
-pub overflow_cast-codes : goal.overflow_cast-codes
-overflow_cast-codes c = omega (arith, c.type_inv.codes c.loop-i.i)
-
-pub returns-then-codes-i : goal.returns-then-codes-i
-returns-then-codes-i c =
-    let l = c.loop-i in
-    let m = level-listed _ (get_or c.args.bap.now l.i 0) l.invariant.3 (search rules) in
-    coded-code _ _ _ c.loop-i-test.true (search rules) (search rules) (rw m at c.if-codes-i.true) ∙ l.invariant.0
-
-pub loop-i-preserved : goal.loop-i-preserved
-loop-i-preserved c =
-    let l = c.loop-i in
-    let m = level-listed _ (get_or c.args.bap.now l.i 0) l.invariant.3 (search rules) in (
-      coded-next _ _ _ c.loop-i-test.true (search rules) (search rules) (rw m at c.if-codes-i.false) ∙ l.invariant.0,
-      omega arith,
-      l.invariant.2,
-      l.invariant.3,
-    )
+all-coded : (table : List ℕ) → LevelTable table → (bs cs : List ℕ) → length bs ≡ length cs → list_all (passes table) (zip bs cs) ≡ coded bs cs
+unfolding coded
+all-coded table made [] [] e = refl
+all-coded table made [] (c ∷ cs) e = absurd (omega (arith, e))
+all-coded table made (b ∷ bs) [] e = absurd (omega (arith, e))
+all-coded table made (b ∷ bs) (c ∷ cs) e =
+    of_bap b c (get_or table b 0) (ltb b 16) _ (λ h. level-listed table b made (ltb-true b 16 h))
+    ∙ ap (λ r. ltb b 16 && (ltb c (levels b) && r)) (all-coded table made bs cs (omega (arith, e)))
 
 pub returns : goal.returns
-returns c = let l = c.loop-i in coded-end _ _ _ c.loop-i-test.false (omega arith) ∙ l.invariant.0
+returns c =
+    let table = c.level_table-levels.result in
+    all_from_yields_List {s = c.zip.result} (passes table) c.all.new.self _ _ c.all.ensures.ran
+    (YieldsList-from_zip (YieldsList-from_slice c.args.bap.now (search rules)) (YieldsList-from_slice c.args.codes.now (search rules)))
+    (λ x b q k. search (rules, tests))
+    ∙ all-coded table c.level_table-levels.ensures c.args.bap.now c.args.codes.now c.requires

@@ -1,21 +1,15 @@
-use mathlib.Core.Path.{◌≡◌, refl, ◌∙◌}
-use native.Mathlib.Omega.{arith}
-use lib.ListN.{replicate, length-set}
-use Rattle.bits.specs.Parts.{tab, joined}
-use Rattle.bits.specs.PartsLaws.{tab-start, tab-more, tab-end}
+-- The call at each bap gave its size; the sizes of all sixteen are the list.
+use Rattle.std.proofs.Common.{◌≡◌, refl, ◌∙◌, rules}
+use Rattle.std.proofs.lemmas.List.FromFn.{fill_by_all}
+use Rattle.std.specs.Prelude.{map}
+use Rattle.std.specs.List.{range_with_len}
 use Rattle.tables.specs.Entry.{entry}
 use Rattle.mantissas.specs.Ranges.{size, group_sizes}
 use Rattle.mantissas.proofs.code.group_sizes.Goals as goal
 
-all-sizes : tab 16 size ≡ group_sizes
-unfolding tab joined size group_sizes entry
+all-sizes : map size (range_with_len 0 16) ≡ group_sizes
+unfolding size group_sizes entry
 all-sizes = refl
 
-pub loop-b-init : goal.loop-b-init
-loop-b-init c = (omega arith, refl, tab-start size (replicate 16 0))
-
-pub loop-b-preserved : goal.loop-b-preserved
-loop-b-preserved c = let l = c.loop-b in (omega arith, rw length-set l.invariant.1, tab-more size _ _ _ (omega arith) l.invariant.2 c.size.ensures.value)
-
 pub returns : goal.returns
-returns c = let l = c.loop-b in tab-end size _ _ 16 (omega arith) l.invariant.1 l.invariant.2 ∙ all-sizes
+returns c = fill_by_all size c.from_fn.result 16 0 c.from_fn.ensures.items.long (λ k h. let w = c.from_fn.ensures.items.at k 0 h in search rules) ∙ all-sizes

@@ -1,14 +1,6 @@
 -- The tally of the whole list, read.
-use native.Mathlib.Omega.{arith}
-use borrow.Author.Rules.{rules}
 use Rattle.mantissas.proofs.Weighing.{weighed-bits}
 use Rattle.mantissas.proofs.count.count_mantissas.Goals as goal
-
-pub weigh-requires : goal.weigh-requires
-weigh-requires c = record {
-  below = search rules;
-  bap_bound = omega arith;
-}
 
 pub returns : goal.returns
 returns c =

@@ -1,34 +1,21 @@
-use native.Mathlib.Omega.{arith}
-use borrow.Author.Rules.{rules}
+use Rattle.std.proofs.Common.{arith}
 use Rattle.mantissas.specs.DigitsLaws.{below_at}
 use Rattle.mantissas.proofs.Weighing.{bin-most, weigh-start, weigh-turn, weigh-end}
 use Rattle.mantissas.proofs.count.weigh.Goals as goal
 
-pub loop-i-init : goal.loop-i-init
-loop-i-init c = (weigh-start c.args.bap.now c.args.tally, omega arith, omega arith)
+pub loop-b-init : goal.loop-b-init
+loop-b-init c = (weigh-start c.args.bap.now c.args.tally, omega arith)
 
-pub overflow_cast-sum : goal.overflow_cast-sum
-overflow_cast-sum c = omega (arith, below_at c.requires.below c.loop-i.i c.loop-i-test.true)
+pub bounds-weights-from : goal.bounds-weights-from
+bounds-weights-from c = omega (arith, below_at c.requires.below c.loop-b.b-index c.loop-b-test.true, c.from.ensures)
 
-pub offset_bounds-weights-bap : goal.offset_bounds-weights-bap
-offset_bounds-weights-bap c = omega (arith, below_at c.requires.below c.loop-i.i c.loop-i-test.true)
-
-pub bounds-weights-bap : goal.bounds-weights-bap
-bounds-weights-bap c = search (rules, below_at)
-
-pub overflow_add-sum : goal.overflow_add-sum
-overflow_add-sum c = omega (arith, bin-most c.args.bap.now c.loop-i.i c.requires.below c.loop-i-test.true)
-
-pub loop-i-preserved : goal.loop-i-preserved
-loop-i-preserved c =
+pub loop-b-preserved : goal.loop-b-preserved
+loop-b-preserved c =
     let bs = c.args.bap.now in
-    let l = c.loop-i in
+    let l = c.loop-b in
     let low = c.requires.below in
-    let inside = c.loop-i-test.true in
-    (weigh-turn bs l.i low inside _ _ l.invariant.0, omega arith, omega (arith, bin-most bs l.i low inside))
+    let inside = c.loop-b-test.true in
+    rw c.from.ensures (weigh-turn bs l.b-index low inside _ _ l.invariant.0, omega (arith, bin-most bs l.b-index low inside))
 
-pub returns : goal.returns
-returns c = record {
-  value = weigh-end c.args.bap.now c.loop-i.i _ _ (omega arith) c.loop-i.invariant.0;
-  upper_bound = omega arith;
-}
+pub returns-clause-value : goal.returns-clause-value
+returns-clause-value c = weigh-end c.args.bap.now c.loop-b.b-index _ _ (omega arith) c.loop-b.invariant.0

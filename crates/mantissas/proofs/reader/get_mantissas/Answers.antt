@@ -1,140 +1,100 @@
-use mathlib.Core.Path.{refl}
-use Prim.Native.Nat.{◌<◌}
-use native.Mathlib.Omega.{arith}
-use lib.ListN.{get_or, length-set}
-use borrow.Author.Rules.{rules}
+use Rattle.std.proofs.Common.{◌<◌, refl, ap, length, get_or, length-set, arith}
+use Rattle.std.proofs.lemmas.Result.{err_from_is_err_and}
+use Rattle.bits.specs.Field.{bits_of}
 use Rattle.bits.specs.FieldLaws.{length-bits_of}
 use Rattle.mantissas.specs.DigitsLaws.{below_at}
-use Rattle.mantissas.proofs.Arrays.{started-zeros, started-set}
-use Rattle.mantissas.proofs.Reading.{read-start, read-new, read-old, read-fault, read-end}
+use Rattle.mantissas.proofs.Reading.{AtHand, started-nothing, started-set, read-start, hand_new, hand-old, read-turn, read-fault, read-end}
+use Rattle.mantissas.specs.declared.reader.Pending.{Pending}
 use Rattle.mantissas.proofs.reader.get_mantissas.Goals as goal
+use Rattle.mantissas.proofs.reader.get_mantissas.Goals.{After-from, then-group-eq0+in_ok-read_group, else-group-eq0}
+
+low : (c : After-from) → get_or c.args.bap.now c.loop-i.i 0 < 16
+low c = below_at c.requires.below c.loop-i.i (omega arith)
 
 pub loop-i-init : goal.loop-i-init
-loop-i-init c = (read-start, omega arith, refl, omega arith, omega arith, omega arith, refl, refl, started-zeros)
-
-pub overflow_cast-k : goal.overflow_cast-k
-overflow_cast-k c = omega (arith, c.type_inv.bap c.loop-i.i)
-
-pub bounds-left-k : goal.bounds-left-k
-bounds-left-k c = search (rules, below_at)
-
-pub read_group-group-requires : goal.read_group-group-requires
-read_group-group-requires c = search (rules, below_at)
-
-pub returns-then-group-ne-ACCEPTED : goal.returns-then-group-ne-ACCEPTED
-returns-then-group-ne-ACCEPTED c =
-    let l = c.loop-i in
-    let g = c.read_group-group.ensures in record {
-      came = record {
-        good = λ z. absurd (c.if-group-ne-ACCEPTED.true z);
-        bad = λ z. read-fault l.invariant.0 c.loop-i-test.true refl c.if-l-eq0.true (g.bad c.if-group-ne-ACCEPTED.true);
-        within = rw length-bits_of (omega arith);
-        later = omega arith;
-      };
-      pos_bound_2 = omega arith;
+loop-i-init c =
+    record {
+      reading = read-start;
+      codes_long = refl;
+      within = c.requires.pos_bound.0;
+      later = omega arith;
+      soon = omega arith;
+      long = refl;
+      started = started-nothing;
     }
 
-pub size-t-requires : goal.size-t-requires
-size-t-requires c = search (rules, below_at)
+pub bounds-pending-from : goal.bounds-pending-from
+bounds-pending-from c = omega (arith, c.from.ensures, low c)
 
-pub values-q-requires : goal.values-q-requires
-values-q-requires c = (search (rules, below_at), omega (arith, c.size-t.ensures.value))
+pub size-requires : goal.size-requires
+size-requires c = low (goal.at.size-requires c).After-from
 
-pub first-requires : goal.first-requires
-first-requires c = (c.read_group-group.ensures.small, c.values-q.ensures.lower_bound.0)
+pub read_group-requires : goal.read_group-requires
+read_group-requires c = (low (goal.at.read_group-requires c).After-from, c.loop-i.invariant.within)
 
-pub others-requires : goal.others-requires
-others-requires c = (c.read_group-group.ensures.small, c.values-q.ensures.lower_bound.0)
-
-pub offset_bounds-held-k : goal.offset_bounds-held-k
-offset_bounds-held-k c =
-    let b = get_or c.args.bap.now c.loop-i.i 0 in
-    let hb : b < 16 = search (rules, below_at) in
-    omega arith
-
-pub bounds-held-k : goal.bounds-held-k
-bounds-held-k c = search (rules, below_at)
-
-pub bounds-left-k-then-l-eq0 : goal.bounds-left-k-then-l-eq0
-bounds-left-k-then-l-eq0 c = search (rules, below_at)
+pub returns-in_err-read_group-clause-came : goal.returns-in_err-read_group-clause-came
+returns-in_err-read_group-clause-came c =
+    let p = err_from_is_err_and c.from_residual.result c.from_residual.ensures.1 in
+    let none = rw c.from.ensures at c.if-group-eq0.true in
+    rw (p.1, p.2) (read-fault c.loop-i.invariant.reading (omega arith) refl none c.in_err-read_group.ensures)
 
 pub width-requires : goal.width-requires
-width-requires c = search (rules, below_at)
+width-requires c = low (goal.at.width-requires c).After-from
 
-pub loop-i-preserved-then-l-eq0 : goal.loop-i-preserved-then-l-eq0
-loop-i-preserved-then-l-eq0 c =
-    let l = c.loop-i in
-    let g = c.read_group-group.ensures in
-    let ok = c.if-group-ne-ACCEPTED.false in
-    let there = rw length-bits_of at (g.there ok) in
-    let w = c.width.ensures.value in (
-      read-new _ l.invariant.0 c.loop-i-test.true (omega arith) refl (search (rules, below_at)) (search (rules, below_at)) c.if-l-eq0.true (g.good ok)
-          w c.size-t.ensures.value c.size-t.ensures.lower_bound.0 refl c.values-q.ensures.value c.first.ensures c.others.ensures,
-      omega arith,
-      simp length-set l.invariant.2,
-      omega (arith, there, w),
-      omega arith,
-      omega arith,
-      simp length-set l.invariant.6,
-      simp length-set l.invariant.7,
-      started-set l.invariant.8 (search (rules, below_at)) (omega arith),
-    )
+pub next-code-requires : goal.next-code-requires
+next-code-requires c =
+    let hb = low (goal.at.next-code-requires c).After-from in
+    let less = c.loop-i.invariant.started.less _ hb in
+    elim c.if-group-eq0.branch [
+      | then-group-eq0+in_ok-read_group w ↦ rw w.group-is (hb, w.size.ensures.lower_bound.0, omega (arith, w.size.ensures.value))
+      | else-group-eq0 w ↦ rw (w.group-is, c.from.ensures) (hb, omega (arith, rw c.from.ensures at w.if-group-eq0.false), omega (arith, less))
+    ]
 
-pub values-q-requires-else-l-eq0 : goal.values-q-requires-else-l-eq0
-values-q-requires-else-l-eq0 c =
-    let l = c.loop-i in
-    let b = get_or c.args.bap.now l.i 0 in
-    let hb : b < 16 = search (rules, below_at) in
-    let h = l.invariant.8.less b hb in
-    (hb, omega arith)
-
-pub offset_bounds-held-k-else-l-eq0 : goal.offset_bounds-held-k-else-l-eq0
-offset_bounds-held-k-else-l-eq0 c =
-    let b = get_or c.args.bap.now c.loop-i.i 0 in
-    let hb : b < 16 = search (rules, below_at) in
-    omega arith
-
-pub bounds-held-k-else-l-eq0 : goal.bounds-held-k-else-l-eq0
-bounds-held-k-else-l-eq0 c = search (rules, below_at)
-
-pub offset_bounds-held-k-else-l-eq0-2 : goal.offset_bounds-held-k-else-l-eq0-2
-offset_bounds-held-k-else-l-eq0-2 c =
-    let b = get_or c.args.bap.now c.loop-i.i 0 in
-    let hb : b < 16 = search (rules, below_at) in
-    omega arith
-
-pub bounds-held-k-else-l-eq0-2 : goal.bounds-held-k-else-l-eq0-2
-bounds-held-k-else-l-eq0-2 c = search (rules, below_at)
-
-pub bounds-left-k-else-l-eq0 : goal.bounds-left-k-else-l-eq0
-bounds-left-k-else-l-eq0 c = search (rules, below_at)
+pub bounds-pending-from-in-loop-i : goal.bounds-pending-from-in-loop-i
+bounds-pending-from-in-loop-i c = omega (arith, c.from-in-loop-i.ensures, low (goal.at.bounds-pending-from-in-loop-i c).After-from)
 
 pub loop-i-preserved : goal.loop-i-preserved
 loop-i-preserved c =
     let l = c.loop-i in
-    let b = get_or c.args.bap.now l.i 0 in
-    let hb : b < 16 = search (rules, below_at) in
-    let h = l.invariant.8.less b hb in (
-      read-old l.invariant.0 c.loop-i-test.true (omega arith) refl (search (rules, below_at)) (search (rules, below_at)) refl (search rules) c.wide-v.ensures.0
-          c.values-q-else-l-eq0.ensures.value c.first-else-l-eq0.ensures c.others-else-l-eq0.ensures,
-      omega arith,
-      simp length-set l.invariant.2,
-      l.invariant.3,
-      l.invariant.4,
-      omega arith,
-      simp length-set l.invariant.6,
-      simp length-set l.invariant.7,
-      started-set l.invariant.8 (omega arith) (omega arith),
-    )
+    let hb = low (goal.at.loop-i-preserved c).After-from in
+    let less = l.invariant.started.less _ hb in
+    let inside : get_or c.args.bap.now l.i 0 < length l.pending = rw l.invariant.long hb in
+    let q = c.next-code.result.1 in
+    let e = c.next-code.ensures.codes in
+    let turn = λ (hand : AtHand l.pending (get_or c.args.bap.now l.i 0) (bits_of c.args.input.now) l.at c.if-group-eq0.group c.if-group-eq0.at).
+    read-turn q l.invariant.reading (omega arith) (omega arith) refl inside hand e in
+    elim c.if-group-eq0.branch [
+      | then-group-eq0+in_ok-read_group w ↦
+          let there = rw length-bits_of at w.in_ok-read_group.ensures.there in
+          let n = w.width.ensures in
+          let left = ap (λ (p : Pending). p.left) w.group-is in
+          rw c.from-in-loop-i.ensures (record {
+            reading = turn (rw w.at-is (hand_new (rw c.from.ensures at w.if-group-eq0.true) w.in_ok-read_group.ensures.is n.value (rw w.group-is w.size.ensures.value) (rw w.group-is)));
+            codes_long = rw length-set l.invariant.codes_long;
+            within = omega (arith, w.at-is, there, n.value);
+            later = omega (arith, w.at-is);
+            soon = omega (arith, w.at-is, n.upper_bound);
+            long = rw length-set l.invariant.long;
+            started = started-set q l.invariant.started inside (omega (arith, c.next-code.ensures.left, left, w.size.ensures.value));
+          })
+      | else-group-eq0 w ↦
+          let left = ap (λ (p : Pending). p.left) (rw c.from.ensures at w.group-is) in
+          rw c.from-in-loop-i.ensures (record {
+            reading = turn (rw w.at-is (hand-old q (rw c.from.ensures at w.group-is) e));
+            codes_long = rw length-set l.invariant.codes_long;
+            within = rw w.at-is l.invariant.within;
+            later = rw w.at-is l.invariant.later;
+            soon = omega (arith, w.at-is);
+            long = rw length-set l.invariant.long;
+            started = started-set q l.invariant.started inside (omega (arith, c.next-code.ensures.left, left, less));
+          })
+    ]
 
-pub returns : goal.returns
-returns c =
-    let l = c.loop-i in record {
-      came = record {
-        good = λ z. read-end l.invariant.0 c.loop-i-test.false (omega arith);
-        bad = λ z. absurd (z refl);
-        within = rw length-bits_of l.invariant.3;
-        later = l.invariant.4;
-      };
-      pos_bound_2 = omega arith;
+pub returns-clause-came : goal.returns-clause-came
+returns-clause-came c =
+    let l = c.loop-i in
+    record {
+      is = read-end l.invariant.reading (omega arith) (omega arith);
+      within = rw length-bits_of l.invariant.within;
+      later = l.invariant.later;
     }

@@ -1,23 +1,25 @@
 -- The field is read and judged: each way out is a law of GroupReading.antt.
-use mathlib.Core.Path.{sym, ◌∙◌}
-use native.Mathlib.Omega.{arith}
-use borrow.Author.Rules.{rules}
+use Rattle.std.specs.Prelude.{◌≡◌}
+use Rattle.std.proofs.Common.{sym, ◌∙◌}
+use Rattle.std.proofs.lemmas.Result.{err_from_is_err_and}
 use Rattle.bits.specs.FieldLaws.{length-bits_of}
+use Rattle.bits.specs.declared.refusal.Refusal.TheVariants as refusal
 use Rattle.mantissas.proofs.GroupReading.{group-past, group-no-code, group-good}
 use Rattle.mantissas.proofs.reader.read_group.Goals as goal
 
-pub returns-in_default : goal.returns-in_default
-returns-in_default c = group-past c.width-n.ensures.value (sym c.get-got.ensures ∙ c.in_default.is) c.refused.ensures
-
-pub values-limit-requires : goal.values-limit-requires
-values-limit-requires c = (search rules, omega (arith, c.size.ensures.value))
+pub returns-in_err-v : goal.returns-in_err-v
+returns-in_err-v c =
+    let e = c.in_err-v.ensures in
+    let p = err_from_is_err_and c.from_residual.result c.from_residual.ensures.1 in
+    let past = group-past c.args.b c.args.pos c.width.result _ c.width.ensures.value (sym c.get.ensures ∙ e.ok_part) in
+    let is = rw e.ok_part at e.value in
+    let k : c.in_err-v.field-0.0 ≡ refusal.PastInput = cc in
+    rw (p.1, p.2, k) past
 
 pub returns-then-v-limit : goal.returns-then-v-limit
 returns-then-v-limit c =
-    group-no-code _ c.width-n.ensures.value (sym c.get-got.ensures ∙ c.in-Value.is)
-    (rw c.size.ensures.value at c.values-limit.ensures.value) (omega (arith, c.if-v-limit.true)) c.refused-then-v-limit.ensures
+    group-no-code _ _ _ _ _ _ c.width.ensures.value (sym c.get.ensures ∙ c.in_ok-v.ensures.ok_part) (rw c.size.ensures.value at c.values-limit.ensures.value) c.if-v-limit.true
 
 pub returns : goal.returns
 returns c =
-    group-good _ c.width-n.ensures.value (sym c.get-got.ensures ∙ c.in-Value.is)
-    (rw c.size.ensures.value at c.values-limit.ensures.value) (omega (arith, c.if-v-limit.false)) c.values-limit.ensures.lower_bound.1 (rw length-bits_of (omega arith)) c.accepted.ensures
+    group-good c.width.ensures.value (sym c.get.ensures ∙ c.in_ok-v.ensures.ok_part) (rw c.size.ensures.value at c.values-limit.ensures.value) c.if-v-limit.false (rw length-bits_of c.requires.1)

@@ -1,11 +1,7 @@
 -- The value so far and the codes from bin j on are the group; each way through the body is a law of Grouping.antt.
-use Prim.Native.Nat.{◌+◌, ◌-◌, ◌≤◌}
-use lib.ListN.{length}
+use Rattle.std.proofs.Common.{◌≤◌}
 use Rattle.mantissas.proofs.Grouping.{Grouping}
 use Rattle.mantissas.proofs.stream.group_at.Given as goal
 
-abbrev pub invariant-loop-n : goal.invariant-loop-n
-invariant-loop-n l = Grouping l.bap l.codes l.b l.i l.j l.n l.v × (l.j ≤ length l.bap) × (l.n ≤ 3)
-
-abbrev pub decreases-loop-n : goal.decreases-loop-n
-decreases-loop-n l = l.n + (length l.bap - l.j)
+abbrev pub invariant-loop-j : goal.invariant-loop-j
+invariant-loop-j l = Grouping l.bap l.codes l.b l.i l.j l.missing l.v × (l.missing ≤ l.n)

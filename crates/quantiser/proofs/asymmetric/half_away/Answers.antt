@@ -21,8 +21,8 @@ pub overflow_sub-width-2 : goal.overflow_sub-width-2
 overflow_sub-width-2 c = omega (arith, field-most c.args.m (in-format c) c.requires.t)
 
 pub overflow_add-result : goal.overflow_add-result
-overflow_add-result c = omega (arith, shr_le (to_bits binary32 c.args.m % 8388608 + 8388608) c.least.result)
+overflow_add-result c = omega (arith, shr_le (to_bits binary32 c.args.m % 8388608 + 8388608) c.min.result)
 
 pub returns : goal.returns
 returns c =
-    half_is c.args.m c.args.width _ (search rules) (rw c.least.ensures (whole_is c.args.m c.args.width (in-format (goal.at.returns c).Start) c.requires.t (search rules)))
+    half_is c.args.m c.args.width _ (search rules) (rw c.min.ensures (whole_is c.args.m c.args.width (in-format (goal.at.returns c).Start) c.requires.t (search rules)))

@@ -7,6 +7,3 @@ use Rattle.quantiser.proofs.scale.power_f32.Goals as goal
 pub int_to_float-result : goal.int_to_float-result
 unfolding in_float
 int_to_float-result c = rw c.power.ensures (le→leb _ _ (pow_mono c.requires))
-
-pub returns : goal.returns
-returns c = rw c.power.ensures

@@ -9,6 +9,3 @@ use Rattle.shaping.proofs.d15.ascend.Given as goal
 abbrev pub invariant-loop-i : goal.invariant-loop-i
 invariant-loop-i l =
     (l.i ≤ length l.exp) × (length l.exp ≡ length l.initial.exp) × (l.v ≤ 22 + 2 * l.i) × (take l.i l.exp ++ ascended l.v (drop l.i l.exp) ≡ ascended (l.limit - 2) l.initial.exp)
-
-abbrev pub decreases-loop-i : goal.decreases-loop-i
-decreases-loop-i l = length l.exp - l.i

@@ -12,12 +12,9 @@ loop-i-init c =
 pub loop-i-preserved : goal.loop-i-preserved
 loop-i-preserved c =
     let l = c.loop-i in
-    let t = descent-turn c.args.exp.now l.exp l.v c.smaller-v.result l.i c.smaller.result (omega arith) (omega arith) l.invariant.3 l.invariant.4
-    c.smaller.ensures c.smaller-v.ensures in
+    let t = descent-turn c.args.exp.now l.exp l.v c.min-v.result l.i c.min.result (omega arith) (omega arith) l.invariant.3 l.invariant.4
+    c.min.ensures c.min-v.ensures in
     (omega arith, rw length-set l.invariant.1, omega arith, t.0, t.1)
-
-pub shape_of-exp : goal.shape_of-exp
-shape_of-exp c = c.loop-i.invariant.1
 
 pub returns : goal.returns
 returns c = descent-done _ _ c.loop-i.i (omega arith) c.loop-i.invariant.4

@@ -9,6 +9,3 @@ use Rattle.shaping.proofs.d15.descend.Given as goal
 abbrev pub invariant-loop-i : goal.invariant-loop-i
 invariant-loop-i l =
     (l.i ≤ length l.initial.exp) × (length l.exp ≡ length l.initial.exp) × (l.v ≤ 24) × (l.v ≡ next (descended (drop l.i l.initial.exp))) × (l.exp ≡ descended_from l.i l.initial.exp)
-
-abbrev pub decreases-loop-i : goal.decreases-loop-i
-decreases-loop-i l = l.i

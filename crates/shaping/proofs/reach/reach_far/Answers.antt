@@ -1,31 +1,14 @@
-use mathlib.Core.Path.{refl}
-use lib.ListN.{length-set}
-use Rattle.bits.specs.PartsLaws.{tab-start, tab-more, tab-end}
+-- Each bin has its least.
+use lib.ListN.{length, get_or}
+use Prim.Native.Nat.{ℕ, ◌<◌}
+use mathlib.Core.Path.{◌≡◌}
+use Rattle.std.proofs.Common.{of_calls}
+use Rattle.shaping.proofs.Padded.{tabbed}
 use Rattle.shaping.specs.Reach.{far_least}
-use native.Mathlib.Omega.{arith}
 use Rattle.shaping.proofs.reach.reach_far.Goals as goal
-
-pub loop-i-init : goal.loop-i-init
-loop-i-init c = (tab-start (far_least c.args.from.now) c.args.to.now, omega arith, refl)
-
-pub far_least-requires : goal.far_least-requires
-far_least-requires c = record {
-  i_in_bounds = omega arith;
-  by_index = c.requires.by_index;
-}
-
-pub loop-i-smaller : goal.loop-i-smaller
-loop-i-smaller c = rw length-set (omega arith)
-
-pub loop-i-preserved : goal.loop-i-preserved
-loop-i-preserved c =
-    let l = c.loop-i in
-    (tab-more (far_least c.args.from.now) l.to l.i _ (omega arith) l.invariant.0 c.far_least.ensures, rw length-set (omega arith), rw length-set l.invariant.2)
-
-pub shape_of-to : goal.shape_of-to
-shape_of-to c = c.loop-i.invariant.2
 
 pub returns : goal.returns
 returns c =
-    let l = c.loop-i in
-    tab-end (far_least c.args.from.now) l.to l.i _ (omega arith) l.invariant.2 l.invariant.0
+    let r = c.each_least in
+    let found : (i : ℕ) → i < length c.args.to.now → get_or r.new.to i 0 ≡ far_least c.args.from.now i = λ i h. search (of_calls, r.ensures.found i h) parts 8 in
+    tabbed (far_least c.args.from.now) r.new.to (length c.args.to.now) r.ensures.same_length found

@@ -1,20 +1,20 @@
-use mathlib.Core.Path.{refl}
-use Rattle.shaping.proofs.Costing.{ends-high, ends-turn, ends-done}
-use native.Mathlib.Omega.{arith}
+use mathlib.Core.Bool.{Bool, ◌&&◌}
+use mathlib.Core.List.{List, [], ◌∷◌}
+use mathlib.Core.Path.{◌≡◌, refl, ap, ◌∙◌}
+use Prim.Native.Nat.{ℕ}
+use borrow.Author.Rules.{rules}
+use borrow.Author.Tests.{tests}
+use Rattle.std.specs.Prelude.{leb}
+use Rattle.std.specs.List.{list_all}
+use Rattle.std.proofs.lemmas.Iterator.{YieldsList-from_slice}
+use Rattle.std.proofs.lemmas.Iterator.Search.{all_from_yields_List}
+use Rattle.shaping.specs.Strategies.{ends_held}
 use Rattle.shaping.proofs.select.ends_held.Goals as goal
 
-pub loop-i-init : goal.loop-i-init
-loop-i-init c = refl
-
-pub returns-then-ends-i-gt256 : goal.returns-then-ends-i-gt256
-returns-then-ends-i-gt256 c =
-    let l = c.loop-i in
-    ends-high c.args.ends.now l.i l.invariant (omega arith) c.if-ends-i-gt256.true
-
-pub loop-i-preserved : goal.loop-i-preserved
-loop-i-preserved c =
-    let l = c.loop-i in
-    ends-turn c.args.ends.now l.i l.invariant (omega arith) c.if-ends-i-gt256.false
+each-end : (ends : List ℕ) → list_all (λ end. leb end 256) ends ≡ ends_held ends
+unfolding ends_held
+each-end [] = refl
+each-end (end ∷ ends) = ap (λ (t : Bool). leb end 256 && t) (each-end ends)
 
 pub returns : goal.returns
-returns c = ends-done c.args.ends.now c.loop-i.i c.loop-i.invariant (omega arith)
+returns c = all_from_yields_List (λ end. leb end 256) _ _ _ c.all.ensures.ran (YieldsList-from_slice c.args.ends.now c.iter.ensures.rest) (λ x b q k. search (rules, tests)) ∙ each-end c.args.ends.now

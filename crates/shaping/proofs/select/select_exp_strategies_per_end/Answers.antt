@@ -1,40 +1,25 @@
--- The six rows, or 0 everywhere.
-use mathlib.Core.Path.{sym, ◌∙◌}
-use borrow.Author.Tests.{eq-eqb, ne_eqb}
+-- The six rows, or why the call is turned back.
+use mathlib.Core.Path.{sym}
+use borrow.Author.Rules.{rules}
 use Rattle.bits.specs.Parts.{tab, joined}
-use Rattle.shaping.specs.Strategies.{selected}
+use mathlib.Core.List.{[]}
+use Rattle.std.proofs.lemmas.List.FromFn.{fill_by_all}
+use Rattle.shaping.specs.Strategies.{strategy_row, selected}
+use Rattle.shaping.specs.Inner.{Selectable}
 use Rattle.shaping.specs.StrategyLaws.{selectable}
+use Rattle.bits.proofs.Arrays.{asked-each}
 use Rattle.shaping.proofs.select.select_exp_strategies_per_end.Goals as goal
 
-pub returns-then-number-ne-ACCEPTED : goal.returns-then-number-ne-ACCEPTED
-unfolding selected
-returns-then-number-ne-ACCEPTED c = record {
-  value = simp (← c.select_refusal-number.ensures, ne_eqb _ _ c.if-number-ne-ACCEPTED.true);
-  refusal_after = c.select_refusal-number.ensures;
-}
-
-pub strategy_row-requires : goal.strategy_row-requires
-strategy_row-requires c = selectable _ _ (sym c.select_refusal-number.ensures ∙ c.if-number-ne-ACCEPTED.false)
-
-pub strategy_row-requires-2 : goal.strategy_row-requires-2
-strategy_row-requires-2 c = selectable _ _ (sym c.select_refusal-number.ensures ∙ c.if-number-ne-ACCEPTED.false)
-
-pub strategy_row-requires-3 : goal.strategy_row-requires-3
-strategy_row-requires-3 c = selectable _ _ (sym c.select_refusal-number.ensures ∙ c.if-number-ne-ACCEPTED.false)
-
-pub strategy_row-requires-4 : goal.strategy_row-requires-4
-strategy_row-requires-4 c = selectable _ _ (sym c.select_refusal-number.ensures ∙ c.if-number-ne-ACCEPTED.false)
-
-pub strategy_row-requires-5 : goal.strategy_row-requires-5
-strategy_row-requires-5 c = selectable _ _ (sym c.select_refusal-number.ensures ∙ c.if-number-ne-ACCEPTED.false)
-
-pub strategy_row-requires-6 : goal.strategy_row-requires-6
-strategy_row-requires-6 c = selectable _ _ (sym c.select_refusal-number.ensures ∙ c.if-number-ne-ACCEPTED.false)
+pub from_fn-requires : goal.from_fn-requires
+from_fn-requires c =
+    let s : Selectable c.args.exps.now c.args.ends.now = selectable _ _ (sym c.in_ok-select_check.ensures) in
+    (search rules, asked-each (λ x q r. search rules) (λ x l. search (rules, s)))
 
 pub returns : goal.returns
 unfolding selected tab joined
 returns c =
-    record {
-      value = simp (← c.select_refusal-number.ensures, eq-eqb _ _ c.if-number-ne-ACCEPTED.false, c.strategy_row.ensures, c.strategy_row-2.ensures, c.strategy_row-3.ensures, c.strategy_row-4.ensures, c.strategy_row-5.ensures, c.strategy_row-6.ensures);
-      refusal_after = c.select_refusal-number.ensures;
-    }
+    let x = c.args in
+    let row = strategy_row x.exps.now x.ends.now in
+    let i = c.from_fn.ensures.items in
+    let all = fill_by_all row c.from_fn.result 6 [] i.long (λ k h. let w = i.at k [] h in search rules) in
+    simp (sym c.in_ok-select_check.ensures, all)

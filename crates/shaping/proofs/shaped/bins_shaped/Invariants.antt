@@ -11,7 +11,4 @@ abbrev pub invariant-loop-i : goal.invariant-loop-i
 invariant-loop-i l =
     (1 ≤ l.i)
     × (l.ok ≡ true → get_or l.exp (l.i - 1) 0 ≤ 24)
-    × ((l.ok && follows (l.grpsize - 1) (left l.grpsize ((l.i - 1) % l.grpsize)) (get_or l.exp (l.i - 1) 0) (drop l.i l.exp)) ≡ shaped_for (l.grpsize - 1) l.exp)
-
-abbrev pub decreases-loop-i : goal.decreases-loop-i
-decreases-loop-i l = l.n - l.i
+    × ((l.ok && follows (l.span - 1) (left l.span ((l.i - 1) % l.span)) (get_or l.exp (l.i - 1) 0) (drop l.i l.exp)) ≡ shaped_for (l.span - 1) l.exp)

@@ -3,7 +3,7 @@ use native.Mathlib.Omega.{arith}
 use Rattle.shaping.proofs.spans.shape_spans.Goals as goal
 
 pub spread_out-requires : goal.spread_out-requires
-spread_out-requires c =
+spread_out-requires g c =
     let p = c.requires in
     record {
       k_in_bounds = rw c.shape.auto.exp p.k_in_bounds;
@@ -11,4 +11,4 @@ spread_out-requires c =
     }
 
 pub returns : goal.returns
-returns c = rw c.shape.ensures at c.spread_out.ensures
+returns g c = rw c.shape.ensures at c.spread_out.ensures

@@ -4,10 +4,10 @@ use native.Mathlib.Omega.{arith}
 use Rattle.shaping.proofs.spans.share.Goals as goal
 
 pub shape_spans-requires : goal.shape_spans-requires
-shape_spans-requires c =
+shape_spans-requires g c =
     let a = c.args in
-    let g = c.gather-c in
-    let f = values-fit a.exp.now g.new.to g.result a.h a.k g.ensures.1 g.ensures.0 (omega arith) (omega arith) in
+    let t = c.gather-c in
+    let f = values-fit a.exp.now t.new.to t.result g.row.H a.k t.ensures.1 t.ensures.0 (omega arith) (omega arith) in
     record {
       k_in_bounds = f.0;
       exp_len_bound = (omega arith, omega arith, omega arith);
@@ -15,7 +15,7 @@ shape_spans-requires c =
     }
 
 pub returns : goal.returns
-returns c =
+returns g c =
     let a = c.args in
-    let g = c.gather-c in
-    shared-all a.exp.now _ _ a.limit a.h a.k c.shape_spans.ensures (values-part a.exp.now g.new.to g.result a.h a.k g.ensures.1)
+    let t = c.gather-c in
+    shared-all a.exp.now _ _ a.limit g.row.H a.k c.shape_spans.ensures (values-part a.exp.now t.new.to t.result g.row.H a.k t.ensures.1)

@@ -9,10 +9,10 @@ use Rattle.shaping.proofs.strategies.cost_of.Goals.{then-j-eq0, else-j-eq0}
 
 pub loop-i-init : goal.loop-i-init
 unfolding cost
-loop-i-init c = (omega arith, omega arith, omega arith)
+loop-i-init g c = (omega arith, omega arith, omega arith)
 
 pub loop-i-preserved : goal.loop-i-preserved
-loop-i-preserved c =
+loop-i-preserved g c =
     let l = c.loop-i in
     let i = c.if-j-eq0 in (
       omega arith,
@@ -22,10 +22,10 @@ loop-i-preserved c =
             | then-j-eq0 w ↦ merged-head _ _ _ _ _ _ _ w.if-j-eq0.true w.j-is (w.v-is ∙ rw add-one at w.least_from-v.ensures)
             | else-j-eq0 w ↦ merged-same _ _ _ _ _ _ _ w.if-j-eq0.false w.j-is w.v-is
           ])
-          c.minus.ensures (omega arith),
+          (c.from-sum.ensures ∙ c.saturating_sub.ensures) (omega arith),
     )
 
 pub returns : goal.returns
-returns c =
+returns g c =
     let l = c.loop-i in
     (cost-done c.args.exp.now _ _ l.j l.v _ l.i l.invariant.2 (omega arith), omega arith)

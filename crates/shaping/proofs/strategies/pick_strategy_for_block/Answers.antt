@@ -6,19 +6,19 @@ use Rattle.shaping.proofs.strategies.pick_strategy_for_block.Goals as goal
 
 pub returns-then-end-gt256 : goal.returns-then-end-gt256
 unfolding pick_answer
-returns-then-end-gt256 c = simp (lt-leb _ _ c.if-end-gt256.true) c.refused.ensures
+returns-then-end-gt256 c = simp (lt-leb _ _ c.if-end-gt256.true)
 
 pub returns-then-exp-gt256 : goal.returns-then-exp-gt256
 unfolding pick_answer
-returns-then-exp-gt256 c = simp (le-leb _ _ c.if-end-gt256.false, lt-leb _ _ c.if-exp-gt256.true) c.refused-then-exp-gt256.ensures
+returns-then-exp-gt256 c = simp (le-leb _ _ c.if-end-gt256.false, lt-leb _ _ c.if-exp-gt256.true)
 
 pub returns-then-exp-end : goal.returns-then-exp-end
 unfolding pick_answer
-returns-then-exp-end c = simp (le-leb _ _ c.if-end-gt256.false, le-leb _ _ c.if-exp-gt256.false, lt-leb _ _ c.if-exp-end.true) c.refused-then-exp-end.ensures
+returns-then-exp-end c = simp (le-leb _ _ c.if-end-gt256.false, le-leb _ _ c.if-exp-gt256.false, lt-leb _ _ c.if-exp-end.true)
 
 pub returns : goal.returns
 unfolding pick_answer
 returns c =
     let x = c.args in
     let e = picked-front x.exp.now x.end c.strategy_of.result c.strategy_of.ensures in
-    simp (le-leb _ _ c.if-end-gt256.false, le-leb _ _ c.if-exp-gt256.false, le-leb _ _ c.if-exp-end.false, ← e) c.accepted.ensures
+    simp (le-leb _ _ c.if-end-gt256.false, le-leb _ _ c.if-exp-gt256.false, le-leb _ _ c.if-exp-end.false, ← e)

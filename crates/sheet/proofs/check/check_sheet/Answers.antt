@@ -16,9 +16,6 @@ returns-then-not-records_whole c =
     let v = eq-eqb _ _ (sym c.byte_at.ensures ∙ c.if-byte_at-ne1.false) in
     rw (l, v, held_false c.records_whole.ensures c.if-not-records_whole.true)
 
-pub in_range-requires : goal.in_range-requires
-in_range-requires c = held_true c.records_whole.ensures c.if-not-records_whole.false
-
 pub returns-then-not-in_range : goal.returns-then-not-in_range
 returns-then-not-in_range c =
     let l = held_true c.length_matches.ensures c.if-not-length_matches.false in

@@ -1,19 +1,22 @@
-use mathlib.Core.Path.{sym, ◌∙◌}
+use mathlib.Core.Path.{sym, ap, ◌∙◌}
+use mathlib.Core.Bool.{◌&&◌, and-true}
+use mathlib.Core.List.{List}
+use Prim.Native.Nat.{ℕ}
 use Rattle.sheet.specs.Grammar.{records_of}
-use Rattle.sheet.specs.OrderLaws.{ascending-from}
-use Rattle.sheet.proofs.Counting.{order-step, order-done, records-end}
-use native.Mathlib.Omega.{arith}
+use Rattle.sheet.specs.OrderLaws.{ascending_from, ascending-from}
+use Rattle.sheet.proofs.Counting.{order-step}
 use Rattle.sheet.proofs.check.in_order.Goals as goal
 
-pub loop-at-init : goal.loop-at-init
-loop-at-init c = sym (ascending-from (records_of c.args.sheet.now))
+pub loop-bytes-init : goal.loop-bytes-init
+loop-bytes-init c =
+    rw (c.into_iter-bytes-iterator.ensures.into_iter_gives, c.of-bytes-items.ensures.records) (sym (ascending-from (records_of c.args.sheet.now)))
 
-pub loop-at-preserved : goal.loop-at-preserved
-loop-at-preserved c =
-    let l = c.loop-at in
-    rw (c.wide-channel.ensures.0, c.byte_at.ensures) (order-step l.least c.record_end-next.ensures.split l.all ∙ l.invariant)
+pub loop-bytes-preserved : goal.loop-bytes-preserved
+loop-bytes-preserved c =
+    let l = c.loop-bytes in
+    rw (c.from-channel.ensures, c.byte_at.ensures) (order-step l.least c.in-Some.ensures.steps l.all ∙ l.invariant)
 
 pub returns : goal.returns
 returns c =
-    let l = c.loop-at in
-    order-done l.least (records-end c.args.sheet.now l.at (omega arith)) l.all ∙ l.invariant
+    let l = c.loop-bytes in
+    sym (and-true l.all) ∙ sym (ap (λ (rs : List (List ℕ)). l.all && ascending_from l.least rs) c.in-None.ensures.steps.0) ∙ l.invariant

@@ -1,18 +1,16 @@
-use mathlib.Core.Path.{refl, ◌∙◌}
-use Rattle.sheet.specs.Grammar.{is_whole}
-use Rattle.sheet.proofs.Counting.{every-step, every-done, records-end}
-use native.Mathlib.Omega.{arith}
+-- Each record is asked for.
+use mathlib.Core.Path.{◌∙◌}
+use borrow.Author.Rules.{rules}
+use borrow.Author.Tests.{tests}
+use Rattle.std.proofs.lemmas.Iterator.Consumers.{YieldsList-from_first}
+use Rattle.std.proofs.lemmas.Iterator.Search.{all_from_yields_List}
+use Rattle.sheet.specs.Grammar.{count_off, is_whole, records_of}
+use Rattle.sheet.proofs.Counting.{all-every}
 use Rattle.sheet.proofs.check.records_whole.Goals as goal
-
-pub loop-at-init : goal.loop-at-init
-loop-at-init c = refl
-
-pub loop-at-preserved : goal.loop-at-preserved
-loop-at-preserved c =
-    let l = c.loop-at in
-    rw c.is_whole-all.ensures (every-step is_whole c.record_end-next.ensures.split l.all ∙ l.invariant)
 
 pub returns : goal.returns
 returns c =
-    let l = c.loop-at in
-    every-done is_whole (records-end c.args.sheet.now l.at (omega arith)) l.all ∙ l.invariant
+    all_from_yields_List is_whole c.all.new.self _ c.all.result c.all.ensures.ran
+    (YieldsList-from_first (λ y. y.now) (λ s. count_off 0 s.rest.now) (records_of c.args.sheet.now) c.of.ensures.records)
+    (λ x b q k. search (rules, tests))
+    ∙ all-every is_whole (records_of c.args.sheet.now)

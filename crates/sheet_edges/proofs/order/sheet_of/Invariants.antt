@@ -2,5 +2,5 @@
 use Rattle.std.proofs.Common.{◌≡◌, ◌+◌, ◌*◌, ◌≤◌, length}
 use Rattle.sheet_edges.proofs.order.sheet_of.Given as goal
 
-abbrev pub invariant-loop-i : goal.invariant-loop-i
-invariant-loop-i l = (length l.bytes ≡ length l.initial.bytes) × (12 ≤ l.at) × (l.at ≤ 12 + 26 * l.i)
+abbrev pub invariant-loop-channel : goal.invariant-loop-channel
+invariant-loop-channel l = (length l.bytes ≡ length l.initial.bytes) × (12 ≤ l.at) × (l.at ≤ 12 + 26 * l.channel-index)

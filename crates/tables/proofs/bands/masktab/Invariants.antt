@@ -1,5 +1,5 @@
 -- No band before the present one holds the bin, so it starts at the bin or before it; behind the last band the bin is 253 or more.
-use Prim.Native.Nat.{ℕ, ◌-◌, ◌≤◌, ◌<◌}
+use Prim.Native.Nat.{ℕ, ◌≤◌, ◌<◌}
 use Rattle.tables.specs.Entry.{entry}
 use Rattle.tables.specs.Bands.{bndtab}
 use Rattle.tables.proofs.bands.masktab.Given as goal
@@ -8,7 +8,4 @@ abbrev pub Reached : ℕ → ℕ → Type 0
 Reached bin band = (band < 50 → entry bndtab band ≤ bin) × (50 ≤ band → 253 ≤ bin)
 
 abbrev pub invariant-loop-band : goal.invariant-loop-band
-invariant-loop-band l = (l.band ≤ 50) × Reached l.bin l.band
-
-abbrev pub decreases-loop-band : goal.decreases-loop-band
-decreases-loop-band l = 50 - l.band
+invariant-loop-band l = Reached l.bin l.band

@@ -1,0 +1,2 @@
+mod Allocation
+mod Rows

@@ -1,9 +1,0 @@
--- The element read is the table's entry, by computation at any index.
-use mathlib.Core.Path.{refl}
-use Rattle.tables.specs.Entry.{entry}
-use Rattle.tables.specs.Bands.{bndtab}
-use Rattle.tables.proofs.bands.bndtab.Goals as goal
-
-pub returns : goal.returns
-unfolding entry bndtab
-returns c = refl
