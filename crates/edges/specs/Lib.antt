@@ -1,2 +1,2 @@
--- The starred cases of document 01, "Edges"; of these the statement is to be read.
+-- The starred cases of document 01, "Edges"; of these the statement is to be read. First what a reader must believe.
 pub mod Starred
