@@ -9,7 +9,7 @@ use lib.ListN.{length, take, set}
 use lib.Seq.{take_all, length-take-le}
 use Rattle.bits.specs.Field.{read_field}
 use Rattle.bits.specs.Read.{from, Came}
-use Rattle.bits.specs.declared.refusal.Refusal.{Refusal}
+use Rattle.bits.specs.declared.read.Fault.{Fault}
 use Rattle.bits.specs.declared.refusal.Refusal.TheVariants as refusal
 use Rattle.bits.specs.Reading.{ok, fault, or_past, read_bits}
 use Rattle.sheet.specs.Ranges.{legal_end}
@@ -18,11 +18,11 @@ use Rattle.exponents.specs.ReadShaped.{groups-read}
 use Rattle.exponents.specs.Reading.{with_group, or_bad_group, read_group, read_groups, read_exponents}
 
 -- what `ok_or` says of what it was given
-pub there : (o : Option ℕ) (k : Refusal) (v : ℕ) → Ok v ≡ ok_or o k → o ≡ Some v
+pub there : (o : Option ℕ) (k : Fault) (v : ℕ) → Ok v ≡ ok_or o k → o ≡ Some v
 there None k v e = absurd (cc)
 there (Some x) k v e = cc
 
-pub not-there : (o : Option ℕ) (k n : Refusal) → Err n ≡ ok_or o k → o ≡ None
+pub not-there : (o : Option ℕ) (k n : Fault) → Err n ≡ ok_or o k → o ≡ None
 not-there None k n e = refl
 not-there (Some x) k n e = absurd (cc)
 
@@ -44,11 +44,11 @@ pub set_past : (n g : ℕ) (bits : List Bool) → read_field 4 bits ≡ None →
 unfolding read_exponents read_bits or_past
 set_past n g bits e = rw e
 
-pub set-came : (n g first pos : ℕ) (x : List ℕ) (bits : List Bool) (r : Result ℕ Refusal) → read_field 4 (from pos bits) ≡ Some (first, from (pos + 4) bits)
+pub set-came : (n g first pos : ℕ) (x : List ℕ) (bits : List Bool) (r : Result ℕ Fault) → read_field 4 (from pos bits) ≡ Some (first, from (pos + 4) bits)
     → Came (read_groups n g first (from (pos + 4) bits)) x bits (pos + 4) r → Came (read_exponents n g (from pos bits)) x bits pos r
 unfolding read_exponents read_bits or_past
 set-came n g first pos x bits (Ok p) e c = record { is = rw e c.is; within = c.within; later = omega (arith, c.later) }
-set-came n g first pos x bits (Err k) e c = rw e c
+set-came n g first pos x bits (Err f) e c = record { is = rw e c.is; within = c.within; later = omega (arith, c.later) }
 
 -- bin 0 is stored first
 pub first-set : (l : List ℕ) (v : ℕ) → 0 < length l → take 1 (set l 0 v) ≡ v ∷ []

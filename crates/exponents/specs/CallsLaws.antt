@@ -5,7 +5,7 @@ use Rattle.std.proofs.Math.ListN.{length}
 use Rattle.bits.specs.Reading.{Outcome, ok, then}
 use Rattle.bits.specs.Read.{Came}
 use Rattle.bits.specs.Tests.{both}
-use Rattle.bits.specs.declared.refusal.Refusal.{Refusal}
+use Rattle.bits.specs.declared.read.Fault.{Fault}
 use Rattle.shaping.specs.Greatest.{Shaped}
 use Rattle.sheet.specs.Ranges.{legal_end}
 use Rattle.shaping.specs.Passes.{is_span}
@@ -35,9 +35,9 @@ module _ (span : ℕ) (exps exp : List ℕ) (rest : List Bool) (a : in_range (le
   left_back = rw (a, b, read-outcome)
 
 -- a slice of n entries: what was read, and 0 from end on
-pub came-padded : (o : Outcome (List ℕ)) (l : List ℕ) (end n : ℕ) (bits : List Bool) (pos : ℕ) (r : Result ℕ Refusal) → Came o (take end l) bits pos r
+pub came-padded : (o : Outcome (List ℕ)) (l : List ℕ) (end n : ℕ) (bits : List Bool) (pos : ℕ) (r : Result ℕ Fault) → Came o (take end l) bits pos r
     → drop end l ≡ replicate (n - end) 0 → Came (then o (λ exps t. ok (exps ++ replicate (n - end) 0) t)) l bits pos r
 came-padded o l end n bits pos (Ok p) c d =
     let e : take end l ++ replicate (n - end) 0 ≡ l = rw (sym d) (take-append-drop end l) in
     record { is = rw (c.is, e); within = c.within; later = c.later }
-came-padded o l end n bits pos (Err k) c d = rw c
+came-padded o l end n bits pos (Err f) c d = record { is = rw c.is; within = c.within; later = c.later }

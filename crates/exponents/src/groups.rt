@@ -7,12 +7,20 @@ ghost use Rattle.exponents.specs.Inner.{Near, difference_at};
 
 use elements::Strategy;
 
-// How many groups follow the absolute value, at the ends that a sheet may hold.
-pub fn group_count(end: usize, strategy: Strategy) -> usize
+// How many groups follow the absolute value, at the ends that a sheet may hold. By any number of bins: it is public, and takes any.
+pub fn group_count(end: usize, grpsize: usize) -> usize
+    requires { (0 < end) × (end ≤ 253) }
+    ensures { (result ≡ group_count end grpsize) × (result ≤ 84) }
+{
+    shaping::groups_of(end, grpsize)
+}
+
+// The same of a set with this strategy.
+pub(crate) fn set_groups(end: usize, strategy: Strategy) -> usize
     requires { (0 < end) × (end ≤ 253) }
     ensures { (result ≡ group_count end (grpsize strategy)) × (result ≤ 84) }
 {
-    shaping::groups_of(end, strategy.grpsize())
+    group_count(end, strategy.grpsize())
 }
 
 // The difference, plus 2, from the bin before to the bin `p`, where a span begins; behind the last bin a pad, which is a zero difference.

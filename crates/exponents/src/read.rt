@@ -1,5 +1,5 @@
 // The reader of an exponent set.
-ghost use Rattle.std.specs.Prelude.{◌≡◌, true, ◌+◌, ◌-◌, ◌*◌, ◌^◌, ◌≤◌, ◌<◌, length, take, drop, replicate, IfOk, IfSome};
+ghost use Rattle.std.specs.Prelude.{◌≡◌, true, ◌+◌, ◌-◌, ◌*◌, ◌^◌, ◌≤◌, ◌<◌, length, take, drop, replicate, IfSome, MatchResult};
 ghost use Rattle.bits.specs.Field.{bits_of};
 ghost use Rattle.bits.specs.Read.{from as bitsFrom, Came};
 ghost use Rattle.elements.specs.Strategy.{grpsize};
@@ -8,9 +8,9 @@ ghost use Rattle.exponents.specs.Reading.{with_span, with_group, read_groups, re
 ghost use Rattle.exponents.specs.Inner.{reached};
 ghost use Rattle.exponents.specs.Calls.{exponents_read, exponents_left};
 
-use crate::groups::group_count;
+use crate::groups::set_groups;
 use crate::limits::set_strategy;
-use bits::Refusal;
+use bits::{Fault, Refusal};
 use elements::Strategy;
 
 // One difference (plus 2) after the first `p` exponents: stores the next span and answers how many exponents there are now,
@@ -58,30 +58,43 @@ fn get_groups(
     first: u32,
     strategy: Strategy,
     exp: &mut [u8],
-) -> Result<usize, Refusal>
+) -> Result<usize, Fault>
     requires pos_bound { (pos ≤ 8 * length input.now) × (pos < 2 ^ 33) × (first ≤ 15) }
     requires exp_value { legal_end (length exp.old) ≡ true }
     ensures came { Came (read_groups (length exp.old) (grpsize strategy) first (bitsFrom pos (bits_of input.now))) exp.new (bits_of input.now) pos result }
-    ensures pos_bound_2 { IfOk result (λ p. p ≤ pos + 588) }
+    ensures pos_bound_2 { MatchResult result (λ p. p ≤ pos + 588) (λ f. f.pos ≤ pos + 588) }
 {
-    let groups = group_count(exp.len(), strategy);
+    let groups = set_groups(exp.len(), strategy);
     exp[0] = first as u8;
     let mut p = 1;
     for i in 0..groups {
-        let v = bits::get(input, pos + 7 * i, 7).ok_or(Refusal::PastInput)?;
-        p = place_group(exp, p, strategy, v).ok_or(Refusal::BadGroup)?;
+        let at = pos + 7 * i;
+        let past = Fault {
+            refusal: Refusal::PastInput,
+            pos: at,
+        };
+        let v = bits::get(input, at, 7).ok_or(past)?;
+        let bad = Fault {
+            refusal: Refusal::BadGroup,
+            pos: at + 7,
+        };
+        p = place_group(exp, p, strategy, v).ok_or(bad)?;
     }
     Ok(pos + 7 * groups)
 }
 
 // The set at `pos`; the slice holds the bins below end.
-fn get_set(input: &[u8], pos: usize, strategy: Strategy, exp: &mut [u8]) -> Result<usize, Refusal>
+fn get_set(input: &[u8], pos: usize, strategy: Strategy, exp: &mut [u8]) -> Result<usize, Fault>
     requires pos_bound { (pos ≤ 8 * length input.now) × (pos < 2 ^ 32) }
     requires exp_value { legal_end (length exp.old) ≡ true }
     ensures came { Came (read_exponents (length exp.old) (grpsize strategy) (bitsFrom pos (bits_of input.now))) exp.new (bits_of input.now) pos result }
-    ensures pos_bound_2 { IfOk result (λ p. p ≤ pos + 592) }
+    ensures pos_bound_2 { MatchResult result (λ p. p ≤ pos + 592) (λ f. f.pos ≤ pos + 592) }
 {
-    let first = bits::get(input, pos, 4).ok_or(Refusal::PastInput)?;
+    let past = Fault {
+        refusal: Refusal::PastInput,
+        pos,
+    };
+    let first = bits::get(input, pos, 4).ok_or(past)?;
     get_groups(input, pos + 4, first, strategy, exp)
 }
 
@@ -92,12 +105,12 @@ pub fn get_exponents(
     end: usize,
     strategy: Strategy,
     exp: &mut [u8],
-) -> Result<usize, Refusal>
+) -> Result<usize, Fault>
     requires pos_bound { (pos ≤ 8 * length input.now) × (pos < 2 ^ 32) }
     requires end_value { (legal_end end ≡ true) × (end ≤ length exp.old) }
     ensures came { Came (read_exponents end (grpsize strategy) (bitsFrom pos (bits_of input.now))) (take end exp.new) (bits_of input.now) pos result }
     ensures exp_after { drop end exp.new ≡ replicate (length exp.old - end) 0 }
-    ensures pos_bound_2 { IfOk result (λ p. p ≤ pos + 592) }
+    ensures pos_bound_2 { MatchResult result (λ p. p ≤ pos + 592) (λ f. f.pos ≤ pos + 592) }
 {
     let n = exp.len();
     let r = get_set(input, pos, strategy, &mut exp[0..end]);
@@ -119,9 +132,9 @@ pub fn read_exponents_grouped(
     let r = get_exponents(input, 0, end, strategy, exp);
     match r {
         Ok(bits) => Ok(bits as u32),
-        Err(refusal) => {
+        Err(fault) => {
             exp.fill(0);
-            Err(refusal)
+            Err(fault.refusal)
         }
     }
 }

@@ -8,7 +8,7 @@ ghost use Rattle.sheet.specs.Ranges.{legal_end};
 ghost use Rattle.exponents.specs.Groups.{group_count, exponent_bits};
 ghost use Rattle.exponents.specs.Calls.{exponents_written};
 
-use crate::groups::{group_at, group_count};
+use crate::groups::{group_at, set_groups};
 use crate::limits::set_strategy;
 use bits::{Refusal, Writer};
 use elements::Strategy;
@@ -28,7 +28,7 @@ pub fn put_exponents(
     ensures put { Put out.old w (exponent_bits (grpsize strategy) (take end exp.now)) out.new result }
     ensures result_value { place result ≡ place w + (4 + 7 * group_count end (grpsize strategy)) }
 {
-    let groups = group_count(end, strategy);
+    let groups = set_groups(end, strategy);
     let mut w = bits::put(out, w, u32::from(exp[0]), 4);
     for i in 0..groups {
         w = bits::put(out, w, group_at(exp, end, strategy, i), 7);
@@ -50,7 +50,7 @@ pub fn write_exponents_grouped(
     if !is_shaped(&exp[0..end], strategy.grpsize()) {
         return Err(Refusal::BadExponent);
     }
-    let count = 4 + 7 * group_count(end, strategy);
+    let count = 4 + 7 * set_groups(end, strategy);
     if out.len() < count.div_ceil(8) {
         return Err(Refusal::NoRoom);
     }

@@ -17,7 +17,7 @@ fn count_set(set: ExponentSet, end: usize) -> u32
     match set {
         ExponentSet::Reuse => 0,
         ExponentSet::New(strategy) => {
-            let groups = exponents::groups::group_count(end, strategy);
+            let groups = exponents::groups::group_count(end, strategy.grpsize());
             4 + 7 * (groups as u32)
         }
     }

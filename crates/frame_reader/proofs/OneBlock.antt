@@ -36,7 +36,7 @@ pub baps-below : (settings : Settings) (row : List ℕ) → Below 16 (bap_row se
 unfolding bap_row bap_part
 baps-below settings row =
     below-joined (channels settings) (λ c. bap_part settings c (piece 256 c row))
-    (λ c. below_all _ (λ i h. omega (arith, allocated-most settings.common (record_at settings c) (end_at settings c) (piece 256 c row) 256 i)))
+    (λ c. below_all _ (λ i h. omega (arith, allocated-most settings.common (record_at settings c).codes (end_at settings c) (piece 256 c row) 256 i)))
 
 -- ---- one block
 

@@ -2,7 +2,7 @@
 use Rattle.std.specs.Prelude.{ℕ, ◌-◌, ◌≡◌, Bool, List, ◌++◌, Result, length, take, drop, replicate}
 use Rattle.bits.specs.Read.{from, Came}
 use Rattle.bits.specs.Reading.{ok, then}
-use Rattle.bits.specs.declared.refusal.Refusal.{Refusal}
+use Rattle.bits.specs.declared.read.Fault.{Fault}
 use Rattle.elements.specs.Strategy.{grpsize}
 use Rattle.elements.specs.declared.set.ExponentSet.{ExponentSet}
 use Rattle.elements.specs.declared.set.ExponentSet.TheVariants.{Reuse, New}
@@ -21,7 +21,7 @@ unfolding read_part
 part-new set strategy end old bits e = rw e
 
 -- a set that was read into a part of 256 entries
-pub part-came : (set : ExponentSet) (strategy : Strategy) (end : ℕ) (old part : List ℕ) (bits : List Bool) (pos : ℕ) (r : Result ℕ Refusal) → set ≡ New strategy
+pub part-came : (set : ExponentSet) (strategy : Strategy) (end : ℕ) (old part : List ℕ) (bits : List Bool) (pos : ℕ) (r : Result ℕ Fault) → set ≡ New strategy
     → length old ≡ 256 → Came (read_exponents end (grpsize strategy) (from pos bits)) (take end part) bits pos r → drop end part ≡ replicate (length old - end) 0
     → Came (read_part set end old (from pos bits)) part bits pos r
 part-came set strategy end old part bits pos r e n c d =

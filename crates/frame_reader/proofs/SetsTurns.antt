@@ -53,7 +53,7 @@ module _ {settings : Settings} {b : ℕ} {old : List ℕ} {bits : List Bool} {po
   part-size = part-long 256 c a k row u.start u.wide fits
 
   -- the row with the part in its place
-  row-size : (part : List ℕ) → length part ≡ 256 → length (placed a k row part) ≡ 256 * channels settings
+  pub row-size : (part : List ℕ) → length part ≡ 256 → length (placed a k row part) ≡ 256 * channels settings
   row-size part n = placed-length row part a k (omega (arith, fits, u.start, u.wide)) (n ∙ sym u.wide) ∙ t.long
 
   same-part : read_part set end (take k (drop a row)) (from at bits) ≡ read_part (set_at settings b c) (end_at settings c) (piece 256 c old) (from at bits)

@@ -1,5 +1,5 @@
 // The exponents of a block, read in place over those of the block before.
-ghost use Rattle.std.specs.Prelude.{◌≡◌, true, ◌+◌, ◌*◌, ◌^◌, ◌≤◌, ◌<◌, length, IfOk};
+ghost use Rattle.std.specs.Prelude.{◌≡◌, true, ◌+◌, ◌*◌, ◌^◌, ◌≤◌, ◌<◌, length, MatchResult};
 ghost use Rattle.bits.specs.Field.{bits_of};
 ghost use Rattle.bits.specs.Read.{from, Came};
 ghost use Rattle.sheet.specs.Ranges.{legal_end};
@@ -7,7 +7,7 @@ ghost use Rattle.sheet.specs.Settings.{channels};
 ghost use Rattle.frame.specs.Reader.{read_part, read_sets};
 ghost use Rattle.frame_reader.specs.Reading.{most_set, most_sets};
 
-use bits::Refusal;
+use bits::Fault;
 use elements::ExponentSet;
 use sheet::Track;
 
@@ -18,11 +18,11 @@ fn get_part(
     set: ExponentSet,
     end: usize,
     part: &mut [u8],
-) -> Result<usize, Refusal>
+) -> Result<usize, Fault>
     requires pos_bound { (pos ≤ 8 * length input.now) × (pos < 2 ^ 32) }
     requires end_value { (legal_end end ≡ true) × (end ≤ 256) × (length part.old ≡ 256) }
     ensures came { Came (read_part set end part.old (from pos (bits_of input.now))) part.new (bits_of input.now) pos result }
-    ensures near { IfOk result (λ p. p ≤ pos + most_set) }
+    ensures near { MatchResult result (λ p. p ≤ pos + most_set) (λ f. f.pos ≤ pos + most_set) }
 {
     match set {
         ExponentSet::Reuse => Ok(pos),
@@ -37,11 +37,11 @@ pub(crate) fn get_sets(
     input: &[u8],
     pos: usize,
     row: &mut [u8],
-) -> Result<usize, Refusal>
+) -> Result<usize, Fault>
     requires b_bound { (b < 6) × (length row.old ≡ 256 * channels track.now.settings) }
     requires pos_bound { (pos ≤ 8 * length input.now) × (pos < 2 ^ 31) }
     ensures came { Came (read_sets track.now.settings b row.old (from pos (bits_of input.now))) row.new (bits_of input.now) pos result }
-    ensures near { IfOk result (λ p. p ≤ pos + most_sets) }
+    ensures near { MatchResult result (λ p. p ≤ pos + most_sets) (λ f. f.pos ≤ pos + most_sets) }
 {
     let n = track.channels();
     let mut at = pos;

@@ -3,7 +3,7 @@
 use Rattle.std.specs.Prelude.{◌≡◌, Bool, List, [], ◌∷◌, ℕ, ◌+◌, ◌≤◌, ◌<◌, length, drop, get_or, Result, MatchResult}
 use Rattle.bits.specs.Read.{from}
 use Rattle.bits.specs.Reading.{ok, fault}
-use Rattle.bits.specs.declared.refusal.Refusal.{Refusal}
+use Rattle.bits.specs.declared.read.Fault.{Fault}
 use Rattle.mantissas.specs.Ranges.{levels, width}
 use Rattle.mantissas.specs.Stream.{of_bap, group_code, read_group}
 use Rattle.tables.specs.Entry.{entry}
@@ -31,6 +31,6 @@ pub record GroupAt (b : ℕ) (bits : List Bool) (pos v : ℕ) : Type 0 where
   pub is : read_group b (from pos bits) ≡ ok v (from (pos + width b) bits)
   pub there : pos + width b ≤ length bits
 
--- that is what reading the field gives, or it gives the reader's fault
-abbrev pub GroupRead : ℕ → List Bool → ℕ → Result ℕ Refusal → Type 0
-GroupRead b bits pos result = MatchResult result (λ v. GroupAt b bits pos v) (λ k. read_group b (from pos bits) ≡ fault k)
+-- that is what reading the field gives, or it gives the reader's fault, which is met at the field
+abbrev pub GroupRead : ℕ → List Bool → ℕ → Result ℕ Fault → Type 0
+GroupRead b bits pos result = MatchResult result (λ v. GroupAt b bits pos v) (λ f. (read_group b (from pos bits) ≡ fault f.refusal) × (f.pos ≡ pos))

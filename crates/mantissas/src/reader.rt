@@ -1,5 +1,5 @@
 // The reader of a mantissa stream (A/52 7.3.5; the Rust has none).
-ghost use Rattle.std.specs.Prelude.{◌≡◌, ◌∷◌, ◌+◌, ◌*◌, ◌^◌, ◌≤◌, ◌<◌, length, IfOk};
+ghost use Rattle.std.specs.Prelude.{◌≡◌, ◌∷◌, ◌+◌, ◌*◌, ◌^◌, ◌≤◌, ◌<◌, length, MatchResult};
 ghost use Rattle.bits.specs.Field.{bits_of};
 ghost use Rattle.bits.specs.Read.{from, Came};
 ghost use Rattle.mantissas.specs.Calls.{most_entries, read_answer, codes_after};
@@ -9,7 +9,7 @@ ghost use Rattle.mantissas.specs.Pending.{waiting};
 ghost use Rattle.mantissas.specs.Stream.{read_stream};
 
 use crate::code::{check_baps, one_length, size, values, width};
-use bits::Refusal;
+use bits::{Fault, Refusal};
 
 // What waits of the last field of a bap: how many codes, and their value. Document 01 names this form, the group's state by value: so it is no `Option`.
 #[derive(Clone, Copy, Debug, PartialEq, Eq)]
@@ -41,14 +41,21 @@ impl Pending {
 }
 
 // The value of a group of bap b at pos, or the fault.
-fn read_group(input: &[u8], pos: usize, b: u8) -> Result<u16, Refusal>
+fn read_group(input: &[u8], pos: usize, b: u8) -> Result<u16, Fault>
     requires { (b < 16) × (pos ≤ 8 * length input.now) }
     ensures { GroupRead b (bits_of input.now) pos result }
 {
-    let v = bits::get(input, pos, width(b)).ok_or(Refusal::PastInput)?;
+    let past = Fault {
+        refusal: Refusal::PastInput,
+        pos,
+    };
+    let v = bits::get(input, pos, width(b)).ok_or(past)?;
     let limit = values(b, size(b));
     if v >= limit {
-        return Err(Refusal::NoCode);
+        return Err(Fault {
+            refusal: Refusal::NoCode,
+            pos,
+        });
     }
     Ok(v as u16)
 }
@@ -59,12 +66,12 @@ pub fn get_mantissas(
     pos: usize,
     bap: &[u8],
     codes: &mut [u16],
-) -> Result<usize, Refusal>
+) -> Result<usize, Fault>
     requires pos_bound { (pos ≤ 8 * length input.now) × (pos < 2 ^ 32) }
     requires bap_len { (length bap.now ≡ length codes.old) × (length bap.now ≤ most_entries) }
     requires below { Below 16 bap.now }
     ensures came { Came (read_stream bap.now (from pos (bits_of input.now))) codes.new (bits_of input.now) pos result }
-    ensures pos_bound_2 { IfOk result (λ end. end ≤ pos + 16 * length bap.now) }
+    ensures pos_bound_2 { MatchResult result (λ end. end ≤ pos + 16 * length bap.now) (λ f. f.pos ≤ pos + 16 * length bap.now) }
 {
     let mut at = pos;
     let mut pending = [NOTHING; 16];
@@ -99,7 +106,7 @@ pub fn read_mantissa_stream(input: &[u8], bap: &[u8], codes: &mut [u16]) -> Resu
         Ok(end) => Ok(end as u32),
         Err(fault) => {
             codes.fill(0);
-            Err(fault)
+            Err(fault.refusal)
         }
     }
 }

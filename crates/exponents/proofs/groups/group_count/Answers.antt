@@ -1,21 +1,19 @@
 -- `exponents::group_count` is the number of groups of shaping, which at these ends is at most 84.
-use Prim.Native.Nat.{ℕ, ◌≤◌}
-use mathlib.Core.Path.{◌≡◌}
+use mathlib.Core.Bool.{Bool, true, false, cond}
+use Prim.Native.Nat.{ℕ, ◌+◌, ◌-◌, ◌/◌, ◌≤◌}
 use native.Mathlib.Omega.{arith}
-use Rattle.elements.specs.Strategy.{grpsize}
-use Rattle.elements.specs.declared.strategy.Strategy.{Strategy}
-use Rattle.elements.specs.declared.strategy.Strategy.TheVariants.{D15, D25, D45}
-use Rattle.shaping.specs.Groups.{groups}
+use lib.Dec.{eqb}
 use Rattle.exponents.specs.Groups.{group_count}
 use Rattle.exponents.proofs.groups.group_count.Goals as goal
 
-at_most : (strategy : Strategy) (end : ℕ) → end ≤ 253 → groups end (grpsize strategy) ≤ 84
-at_most D15 end h = omega arith
-at_most D25 end h = omega arith
-at_most D45 end h = omega arith
+at_most : (d15 d25 : Bool) (end : ℕ) → end ≤ 253 → cond d15 ((end - 1) / 3) (cond d25 ((end - 1 + 3) / 6) ((end - 1 + 9) / 12)) ≤ 84
+at_most true d25 end h = omega arith
+at_most false true end h = omega arith
+at_most false false end h = omega arith
 
 pub returns : goal.returns
 unfolding group_count
 returns c =
-    let e : c.groups_of.result ≡ groups c.args.end (grpsize c.args.strategy) = rw c.grpsize.ensures at c.groups_of.ensures.0 in
-    (e, omega (arith, e, at_most c.args.strategy c.args.end (omega arith)))
+    let a = c.args in
+    let e = c.groups_of.ensures.0 in
+    (e, omega (arith, at_most (eqb a.grpsize 1) (eqb a.grpsize 2) a.end (omega arith)))

@@ -17,8 +17,8 @@ use Rattle.exponents.proofs.Turns.{there, not-there, turn-past, turn-bad, turn-g
 use native.Mathlib.Omega.{arith}
 use Rattle.exponents.proofs.read.get_groups.Goals as goal
 
-pub group_count-groups-requires : goal.group_count-groups-requires
-group_count-groups-requires c =
+pub set_groups-groups-requires : goal.set_groups-groups-requires
+set_groups-groups-requires c =
     let n = end-bounds (length c.args.exp.now) c.requires.exp_value in
     omega arith
 
@@ -39,22 +39,30 @@ unfolding read_groups
 returns-in_err-v-clause-came c =
     let x = c.args in
     let l = c.loop-i in
-    let k : c.from_residual.result ≡ Err refusal.PastInput = search rules in
+    let k : c.from_residual.result ≡ Err (record { refusal = refusal.PastInput; pos = x.pos + 7 * l.i }) = search rules in
     let past = found-past _ (sym c.get.ensures ∙ not-there _ _ _ c.in_err-v.ensures.value) in
     let g : l.i < group_count (length x.exp.now) (grpsize x.strategy) = omega arith in
-    rw k (steps-fault _ l.i _ _ _ _ _ _ g l.invariant.4 (turn-past _ _ _ _ _ past))
+    rw k (record {
+      is = steps-fault _ l.i _ _ _ _ _ _ g l.invariant.4 (turn-past _ _ _ _ _ past);
+      within = rw length-bits_of l.invariant.3;
+      later = omega arith;
+    })
 
 pub returns-in_err-p-clause-came : goal.returns-in_err-p-clause-came
 unfolding read_groups
 returns-in_err-p-clause-came c =
     let x = c.args in
     let l = c.loop-i in
-    let k : c.from_residual-in_err-p.result ≡ Err refusal.BadGroup = search rules in
+    let k : c.from_residual-in_err-p.result ≡ Err (record { refusal = refusal.BadGroup; pos = x.pos + 7 * l.i + 7 }) = search rules in
     let f = found-value 7 (x.pos + 7 * l.i) (bits_of x.input.now) _ (sym c.get.ensures ∙ there _ _ _ c.in_ok-v.ensures.value) in
     let none = not-there _ _ _ c.in_err-p.ensures.value in
     let bad = rw (none, l.invariant.0) at c.place_group.ensures.exp_value in
     let g : l.i < group_count (length x.exp.now) (grpsize x.strategy) = omega arith in
-    rw k (steps-fault _ l.i _ _ _ _ _ _ g l.invariant.4 (turn-bad _ _ _ _ _ _ _ f.0 bad))
+    rw k (record {
+      is = steps-fault _ l.i _ _ _ _ _ _ g l.invariant.4 (turn-bad _ _ _ _ _ _ _ f.0 bad);
+      within = rw length-bits_of (omega (arith, rw length-bits_of at f.1));
+      later = omega arith;
+    })
 
 pub loop-i-preserved : goal.loop-i-preserved
 loop-i-preserved c =
@@ -77,12 +85,12 @@ unfolding read_groups
 returns c =
     let x = c.args in
     let l = c.loop-i in
-    let e : l.i ≡ c.group_count-groups.result = omega arith in
-    let q = rw (e, c.group_count-groups.ensures.0) at l.invariant.4 in
-    let n : x.pos + 7 * c.group_count-groups.result ≤ 8 * length x.input.now = omega arith in
+    let e : l.i ≡ c.set_groups-groups.result = omega arith in
+    let q = rw (e, c.set_groups-groups.ensures.0) at l.invariant.4 in
+    let n : x.pos + 7 * c.set_groups-groups.result ≤ 8 * length x.input.now = omega arith in
     record {
       came = record {
-        is = rw c.group_count-groups.ensures.0 (groups-done _ _ _ l.p l.exp _ _ c.requires.exp_value (is_span-grpsize x.strategy) (omega arith) l.invariant.0 (omega arith) q);
+        is = rw c.set_groups-groups.ensures.0 (groups-done _ _ _ l.p l.exp _ _ c.requires.exp_value (is_span-grpsize x.strategy) (omega arith) l.invariant.0 (omega arith) q);
         within = rw length-bits_of n;
         later = omega arith;
       };

@@ -12,9 +12,9 @@ use Rattle.exponents.proofs.read.get_set.Goals as goal
 
 pub returns-in_err-first-clause-came : goal.returns-in_err-first-clause-came
 returns-in_err-first-clause-came c =
-    let k : c.from_residual.result ≡ Err refusal.PastInput = search rules in
+    let k : c.from_residual.result ≡ Err (record { refusal = refusal.PastInput; pos = c.args.pos }) = search rules in
     let past = found-past _ (sym c.get.ensures ∙ not-there _ _ _ c.in_err-first.ensures.value) in
-    rw k (set_past _ _ _ past)
+    rw k (record { is = set_past _ _ _ past; within = rw length-bits_of c.requires.pos_bound.0; later = omega arith })
 
 pub get_groups-requires-clause-pos_bound : goal.get_groups-requires-clause-pos_bound
 get_groups-requires-clause-pos_bound c =

@@ -21,7 +21,7 @@ pub returns-in-Err : goal.returns-in-Err
 returns-in-Err c =
     let g = c.get_exponents-r in
     let x = c.args in
-    let e = rw (from_start (bits_of x.input.now)) at c.in-Err.ensures.came in
+    let e = rw (from_start (bits_of x.input.now)) at c.in-Err.ensures.came.is in
     let q = read-fault (bits_of x.input.now) x.end x.grpsize x.exp.now _ c.in_ok-strategy.ensures _ e in
     record {
       value = q.0;

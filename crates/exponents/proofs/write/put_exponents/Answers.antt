@@ -11,8 +11,8 @@ use Rattle.exponents.proofs.Coding.{set-bits}
 use native.Mathlib.Omega.{arith}
 use Rattle.exponents.proofs.write.put_exponents.Goals as goal
 
-pub group_count-groups-requires : goal.group_count-groups-requires
-group_count-groups-requires c =
+pub set_groups-groups-requires : goal.set_groups-groups-requires
+set_groups-groups-requires c =
     let n = end-bounds c.args.end c.requires.end_value.0 in
     omega arith
 

@@ -24,8 +24,8 @@ returns-then-not-is_shaped c =
       out_after = output-left _ _ _ _;
     }
 
-pub group_count-requires : goal.group_count-requires
-group_count-requires c =
+pub set_groups-requires : goal.set_groups-requires
+set_groups-requires c =
     let x = c.args in
     let n = end-bounds x.end (range-parts x.end x.grpsize c.in_ok-strategy.ensures.ranged).0 in
     omega arith
@@ -62,6 +62,6 @@ returns c =
     let d = rw (sub-zero, c.grpsize.ensures) at (held_true c.is_shaped.ensures c.if-not-is_shaped.false) in
     let s : place c.start.result ≡ 0 = rw c.start.ensures refl in
     let p = rw (c.start.ensures, t.own) at c.put_exponents-w.ensures.put in record {
-      value = rw c.group_count.ensures.0 (written_all x.exp.now x.end x.grpsize (length x.out.now) _ t d (omega arith));
+      value = rw c.set_groups.ensures.0 (written_all x.exp.now x.end x.grpsize (length x.out.now) _ t d (omega arith));
       out_after = output-stored _ _ _ _ (step-stored _ _ _ _ _ _ (omega arith) p c.finish.ensures.value c.finish.ensures.out_after);
     }

@@ -10,4 +10,5 @@ pub returns-in-New : goal.returns-in-New
 returns-in-New c =
     let a = c.args in
     let e = set-groups a.set _ a.end c.in-New.is c.requires in
-    (omega (arith, e, c.group_count-groups.ensures), omega (arith, c.group_count-groups.ensures))
+    let n = rw c.grpsize.ensures at c.group_count-groups.ensures in
+    (omega (arith, e, n), omega (arith, n))

@@ -13,7 +13,7 @@ use Rattle.frame_reader.proofs.block.get_block.Goals as goal
 pub returns-in_err-row_end : goal.returns-in_err-row_end
 returns-in_err-row_end c =
     let p = err_from_is_err_and c.from_residual.result c.from_residual.ensures.1 in
-    rw (p.1, p.2) (block-bad-sets _ _ _ _ _ c.args.row.now c.args.bap.now c.args.codes.now _ c.in_err-row_end.ensures.came)
+    rw (p.1, p.2) (block-bad-sets _ _ _ _ _ c.args.row.now c.args.bap.now c.args.codes.now _ c.in_err-row_end.ensures.came.is)
 
 pub allocate_row-requires-clause-low_row : goal.allocate_row-requires-clause-low_row
 allocate_row-requires-clause-low_row c =
@@ -38,7 +38,7 @@ get_mantissas-requires c =
 pub returns-in_err-end : goal.returns-in_err-end
 returns-in_err-end c =
     let p = err_from_is_err_and c.from_residual-in_err-end.result c.from_residual-in_err-end.ensures.1 in
-    rw (p.1, p.2) (block-bad-codes _ _ _ _ _ _ _ c.args.codes.now _ c.in_ok-row_end.ensures.came c.allocate_row.ensures _ c.in_err-end.ensures.came)
+    rw (p.1, p.2) (block-bad-codes _ _ _ _ _ _ _ c.args.codes.now _ c.in_ok-row_end.ensures.came c.allocate_row.ensures _ c.in_err-end.ensures.came.is)
 
 pub overflow_cast-result-2 : goal.overflow_cast-result-2
 overflow_cast-result-2 c =

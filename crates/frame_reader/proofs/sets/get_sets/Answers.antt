@@ -21,7 +21,9 @@ pub returns-in_err-at-clause-came : goal.returns-in_err-at-clause-came
 returns-in_err-at-clause-came c =
     let t = turn-of c.channels-n.ensures c.loop-c-test.true c.set_at.ensures c.end_at.ensures in
     let p = err_from_is_err_and c.from_residual.result c.from_residual.ensures.1 in
-    rw (p.1, p.2) (sets-fault c.loop-c.invariant t _ c.in_err-at.ensures.came)
+    let i = c.loop-c.invariant in
+    let s = c.in_err-at.ensures.came in
+    rw (p.1, p.2) (record { is = sets-fault i t _ s.is; within = s.within; later = omega (arith, s.later, i.later) })
 
 pub loop-c-preserved : goal.loop-c-preserved
 loop-c-preserved c =

@@ -36,7 +36,18 @@ pub returns-in_err-read_group-clause-came : goal.returns-in_err-read_group-claus
 returns-in_err-read_group-clause-came c =
     let p = err_from_is_err_and c.from_residual.result c.from_residual.ensures.1 in
     let none = rw c.from.ensures at c.if-group-eq0.true in
-    rw (p.1, p.2) (read-fault c.loop-i.invariant.reading (omega arith) refl none c.in_err-read_group.ensures)
+    let l = c.loop-i.invariant in
+    let g = c.in_err-read_group.ensures in
+    rw (p.1, p.2) (record {
+      is = read-fault l.reading (omega arith) refl none g.0;
+      within = rw length-bits_of (omega (arith, g.1, l.within));
+      later = omega (arith, g.1, l.later);
+    })
+
+pub returns-in_err-read_group-clause-pos_bound_2 : goal.returns-in_err-read_group-clause-pos_bound_2
+returns-in_err-read_group-clause-pos_bound_2 c =
+    let p = err_from_is_err_and c.from_residual.result c.from_residual.ensures.1 in
+    rw (p.1, p.2) (omega (arith, c.in_err-read_group.ensures.1, c.loop-i.invariant.soon))
 
 pub width-requires : goal.width-requires
 width-requires c = low (goal.at.width-requires c).After-from

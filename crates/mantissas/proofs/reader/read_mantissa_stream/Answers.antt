@@ -40,6 +40,6 @@ pub returns-in-Err : goal.returns-in-Err
 returns-in-Err c =
     let one = held_true c.one_length.ensures c.if-not-one_length.false in
     let good = held_true c.check_baps.ensures c.if-not-check_baps.false in
-    let w = answers.read-faulty _ _ c.args.codes.now _ one good c.in-Err.ensures.came in
+    let w = answers.read-faulty _ _ c.args.codes.now _ one good c.in-Err.ensures.came.is in
     let zeros = c.fill.ensures.after (λ y e. search rules) in
     record { value = w.0; codes_after = zeros ∙ ap (λ (n : ℕ). replicate n 0) c.get_mantissas.auto.codes ∙ w.1 }
