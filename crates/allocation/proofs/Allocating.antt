@@ -23,7 +23,7 @@ use Rattle.sheet.specs.Legal.{LegalSegment}
 use Rattle.sheet.specs.Record.{segments_of}
 use Rattle.sheet.specs.Ranges.{lfe_end, full_end, legal_end}
 use Rattle.sheet.specs.declared.common_part.Common.{Common}
-use Rattle.sheet.specs.declared.record.ChannelRecord.{ChannelRecord}
+use Rattle.sheet.specs.declared.record.ChannelCodes.{ChannelCodes}
 use Rattle.excitation.specs.BandPsd.{bndpsd}
 use Rattle.excitation.specs.BandPsdLaws.{bndpsd-most, bndpsd-same}
 use Rattle.excitation.specs.BandOrder.{Bands}
@@ -50,7 +50,7 @@ floor-most-all : T (all_below 8 (λ (c : ℕ). leb (held_floor (entry floortab c
 unfolding held_floor entry floortab
 floor-most-all = tt
 
-pub parameters-small : (common : Common) (channel : ChannelRecord) (p : Parameters) → LegalCodes common channel → p ≡ parameters_of common channel
+pub parameters-small : (common : Common) (channel : ChannelCodes) (p : Parameters) → LegalCodes common channel → p ≡ parameters_of common channel
     → Small p
 unfolding parameters_of dbknee_of held_offset
 parameters-small common channel p l e =
@@ -126,7 +126,7 @@ pub excites-small : (p : LeakParameters) (lfe : Bool) (powers : List ℕ) (n : �
 excites-small p lfe powers n xs zs few e z h =
     array-most (excited_by p lfe powers) 0 n xs zs few e z 8191 (λ k. omega (arith, excited-most p lfe powers h k)) (omega arith)
 
-pub deltas-small : (channel : ChannelRecord) (xs : List ℕ) → xs ≡ tab 50 (held_deltas (segments_of channel)) → All LegalSegment (segments_of channel) → (k : ℕ) → get_or xs k 0 ≤ 32768
+pub deltas-small : (channel : ChannelCodes) (xs : List ℕ) → xs ≡ tab 50 (held_deltas (segments_of channel)) → All LegalSegment (segments_of channel) → (k : ℕ) → get_or xs k 0 ≤ 32768
 deltas-small channel xs e h k = rw e (go (dec_lt k 50))
   where
     f : ℕ → ℕ
@@ -150,7 +150,7 @@ thresholds-most fscod table e k = rw e (omega (arith, hth-most fscod k))
 -- ---- the whole
 
 -- what the arrays hold
-pub record Arrays (common : Common) (channel : ChannelRecord) (end : ℕ) (exp : List ℕ) (p : Parameters) (n : ℕ) (powers excites added thresholds : List ℕ) : Type 0 where
+pub record Arrays (common : Common) (channel : ChannelCodes) (end : ℕ) (exp : List ℕ) (p : Parameters) (n : ℕ) (powers excites added thresholds : List ℕ) : Type 0 where
   pub parameters : p ≡ parameters_of common channel
   pub bands : Bands end n
   pub powers-are : powers ≡ tab 51 (bndpsd exp 0 end)
@@ -158,7 +158,7 @@ pub record Arrays (common : Common) (channel : ChannelRecord) (end : ℕ) (exp :
   pub added-are : (k : ℕ) → k < n → get_or added k 0 ≡ held_deltas (segments_of channel) k
   pub thresholds-are : thresholds ≡ row hth common.fscod
 
-pub arrays : (common : Common) (channel : ChannelRecord) (end : ℕ) (exp : List ℕ) (p : Parameters) (n : ℕ) (powers excites added thresholds zeros : List ℕ)
+pub arrays : (common : Common) (channel : ChannelCodes) (end : ℕ) (exp : List ℕ) (p : Parameters) (n : ℕ) (powers excites added thresholds zeros : List ℕ)
     → p ≡ parameters_of common channel → Bands end n → powers ≡ tab 51 (bndpsd exp 0 end)
     → excites ≡ front (excited_by p.leak (lfe_end end) powers) n zeros → zeros ≡ replicate 50 0
     → added ≡ tab 50 (held_deltas (segments_of channel))
@@ -173,7 +173,7 @@ arrays common channel end exp p n powers excites added thresholds zeros q b w x 
       thresholds-are = t;
     }
 
-module _ (common : Common) (channel : ChannelRecord) (legal : LegalCodes common channel) (end : ℕ) (few : end ≤ 253) (exp : List ℕ) (p : Parameters) (n : ℕ)
+module _ (common : Common) (channel : ChannelCodes) (legal : LegalCodes common channel) (end : ℕ) (few : end ≤ 253) (exp : List ℕ) (p : Parameters) (n : ℕ)
     (powers excites added thresholds : List ℕ) (a : Arrays common channel end exp p n powers excites added thresholds) where
   power_at : (k : ℕ) → k < 51 → get_or powers k 0 ≡ bndpsd exp 0 end k
   power_at k h = ap (λ (l : List ℕ). get_or l k 0) a.powers-are ∙ get_or-tab 51 (bndpsd exp 0 end) k h

@@ -20,6 +20,7 @@ use Rattle.sheet.specs.Record.{no_segment, segments_of}
 use Rattle.sheet.specs.Legal.{LegalCommon, LegalRecord, LegalSegment}
 use Rattle.sheet.specs.Ranges.{lfe_end}
 use Rattle.sheet.specs.declared.common_part.Common.{Common}
+use Rattle.sheet.specs.declared.record.ChannelCodes.{ChannelCodes}
 use Rattle.sheet.specs.declared.record.ChannelRecord.{ChannelRecord}
 use Rattle.excitation.specs.Psd.{psd}
 use Rattle.excitation.specs.BandPsd.{bndpsd}
@@ -32,7 +33,7 @@ use Rattle.allocation.specs.Legal.{LegalCodes}
 
 -- ---- the allocation
 
-module _ (common : Common) (channel : ChannelRecord) (end : ℕ) (exp : List ℕ) where
+module _ (common : Common) (channel : ChannelCodes) (end : ℕ) (exp : List ℕ) where
   abbrev bin-of : ℕ → ℕ
   bin-of = bap_of (mask_of common channel end exp) (snroffset_of common channel) (floor_of common) 0 end exp
 
@@ -72,7 +73,7 @@ module _ (common : Common) (channel : ChannelRecord) (end : ℕ) (exp : List ℕ
   allocated-most n i = allocated-at (λ (x : ℕ). x ≤ 15) n i (omega arith) (bin-most i)
 
 -- it depends on the exponents below end only
-module _ (common : Common) (channel : ChannelRecord) (end : ℕ) (exp other : List ℕ) where
+module _ (common : Common) (channel : ChannelCodes) (end : ℕ) (exp other : List ℕ) where
   mask-same : ((bin : ℕ) → bin < end → get_or exp bin 0 ≡ get_or other bin 0) → (band : ℕ)
       → mask_of common channel end exp band ≡ mask_of common channel end other band
   unfolding mask_of
@@ -98,13 +99,13 @@ module _ (common : Common) (channel : ChannelRecord) (end : ℕ) (exp other : Li
 -- ---- legal codes
 
 -- a segment in use is one of the eight
-segment_there : (channel : ChannelRecord) (i : ℕ) (d : Segment) → i < length (segments_of channel) → get_or (segments_of channel) i d ≡ get_or channel.segments i no_segment
+segment_there : (channel : ChannelCodes) (i : ℕ) (d : Segment) → i < length (segments_of channel) → get_or (segments_of channel) i d ≡ get_or channel.segments i no_segment
 segment_there channel i d l =
     let few = length-take channel.nseg channel.segments in
     get_or-take channel.nseg channel.segments i d (omega (arith, few)) ∙ get_or_default channel.segments i d no_segment (omega (arith, few))
 
 -- the codes of a legal record are legal
-pub codes-legal : {common : Common} {c : ℕ} {channel : ChannelRecord} → LegalCommon common → LegalRecord common c channel → LegalCodes common channel
+pub codes-legal : {common : Common} {c : ℕ} {channel : ChannelRecord} → LegalCommon common → LegalRecord common c channel → LegalCodes common channel.codes
 codes-legal {channel = channel} common r =
     record {
       fscod = common.fscod;
@@ -117,5 +118,5 @@ codes-legal {channel = channel} common r =
       fsnroffst = r.fsnroffst;
       fgaincod = r.fgaincod;
       nseg = r.nseg;
-      segments = λ i d l. subst LegalSegment (sym (segment_there channel i d l)) (r.segments i);
+      segments = λ i d l. subst LegalSegment (sym (segment_there channel.codes i d l)) (r.segments i);
     }

@@ -16,7 +16,7 @@ use Rattle.sheet.specs.Ranges.{legal_end}
 use Rattle.sheet.specs.Record.{segments_of}
 use Rattle.sheet.specs.Tests.{all-seven}
 use Rattle.sheet.specs.declared.common_part.Common.{Common}
-use Rattle.sheet.specs.declared.record.ChannelRecord.{ChannelRecord}
+use Rattle.sheet.specs.declared.record.ChannelCodes.{ChannelCodes}
 use Rattle.allocation.specs.Allocation.{allocated, segment_in_range, common_codes, channel_codes, in_range, right_lengths, exponents_fit, answer_of, left_in}
 use Rattle.allocation.specs.Legal.{LegalCodes, LegalBins}
 
@@ -30,7 +30,7 @@ segment-held s h =
     record { offst = leb-true _ _ len.0; len = leb-true _ _ len.1; ba = leb-true _ _ ba.1 }
 
 -- each test that holds says its part
-pub codes-held : (common : Common) (channel : ChannelRecord) → common_codes common ≡ true → channel_codes channel ≡ true → LegalCodes common channel
+pub codes-held : (common : Common) (channel : ChannelCodes) → common_codes common ≡ true → channel_codes channel ≡ true → LegalCodes common channel
 unfolding common_codes channel_codes
 codes-held common channel hc hr =
     let c =
@@ -59,7 +59,7 @@ segment-tested : (s : Segment) → LegalSegment s → segment_in_range s ≡ tru
 unfolding segment_in_range
 segment-tested s l = rw (le-leb _ _ l.offst, le-leb _ _ l.len, le-leb _ _ l.ba)
 
-codes-tested : (common : Common) (channel : ChannelRecord) → LegalCodes common channel → (common_codes common ≡ true) × (channel_codes channel ≡ true)
+codes-tested : (common : Common) (channel : ChannelCodes) → LegalCodes common channel → (common_codes common ≡ true) × (channel_codes channel ≡ true)
 unfolding common_codes channel_codes
 codes-tested common channel l =
     let segments : list_all segment_in_range (segments_of channel) ≡ true = list_all-from_AllPass segment_in_range (segments_of channel) (λ i d h. segment-tested _ (l.segments i d h)) in (
@@ -67,14 +67,14 @@ codes-tested common channel l =
       rw (le-leb _ _ l.nseg, le-leb _ _ l.fsnroffst, le-leb _ _ l.fgaincod, segments),
     )
 
-pub range-held : (common : Common) (channel : ChannelRecord) (end : ℕ) → in_range common channel end ≡ true → LegalCodes common channel × (legal_end end ≡ true)
+pub range-held : (common : Common) (channel : ChannelCodes) (end : ℕ) → in_range common channel end ≡ true → LegalCodes common channel × (legal_end end ≡ true)
 unfolding in_range
 range-held common channel end h =
     let a = both (common_codes common && channel_codes channel) (legal_end end) h in
     let c = both (common_codes common) (channel_codes channel) a.0 in
     (codes-held common channel c.0 c.1, a.1)
 
-pub range-tested : (common : Common) (channel : ChannelRecord) (end : ℕ) → LegalCodes common channel → legal_end end ≡ true → in_range common channel end ≡ true
+pub range-tested : (common : Common) (channel : ChannelCodes) (end : ℕ) → LegalCodes common channel → legal_end end ≡ true → in_range common channel end ≡ true
 unfolding in_range
 range-tested common channel end l e = let t = codes-tested common channel l in rw (t.0, t.1, e)
 
@@ -123,7 +123,7 @@ exponents-tested exp end h =
 
 -- ---- each way through the tests
 
-module _ (common : Common) (channel : ChannelRecord) (end : ℕ) (exp : List ℕ) (size : ℕ) where
+module _ (common : Common) (channel : ChannelCodes) (end : ℕ) (exp : List ℕ) (size : ℕ) where
   pub answer-range : in_range common channel end ≡ false → answer_of common channel end exp size ≡ Err refusal.OutOfRange
   unfolding answer_of
   answer-range a = rw a
@@ -206,7 +206,7 @@ module _ (common : Common) (channel : ChannelRecord) (end : ℕ) (exp : List ℕ
 
 -- ---- what is left in the slice
 
-module _ (common : Common) (channel : ChannelRecord) (end : ℕ) (exp bap : List ℕ) where
+module _ (common : Common) (channel : ChannelCodes) (end : ℕ) (exp bap : List ℕ) where
   pub accepted-allocates : answer_of common channel end exp (length bap) ≡ Ok tt
       → left_in common channel end exp bap ≡ allocated common channel end exp (length bap)
   unfolding left_in

@@ -11,7 +11,7 @@ use Rattle.elements.specs.declared.segment.Segment.{Segment}
 use Rattle.sheet.specs.Ranges.{lfe_end}
 use Rattle.sheet.specs.Record.{segments_of}
 use Rattle.sheet.specs.declared.common_part.Common.{Common}
-use Rattle.sheet.specs.declared.record.ChannelRecord.{ChannelRecord}
+use Rattle.sheet.specs.declared.record.ChannelCodes.{ChannelCodes}
 use Rattle.excitation.specs.Psd.{psd}
 use Rattle.excitation.specs.BandPsd.{bndpsd}
 use Rattle.excitation.specs.Held.{after}
@@ -28,7 +28,7 @@ unfoldable pub held_offset : ℕ → ℕ → ℕ
 held_offset csnroffst fsnroffst = 64 * csnroffst + 4 * fsnroffst
 
 -- all parameters of 7.2.2.1
-unfoldable pub parameters_of : Common → ChannelRecord → Parameters
+unfoldable pub parameters_of : Common → ChannelCodes → Parameters
 parameters_of common channel =
     record {
       leak = leak_of common channel;
@@ -97,12 +97,12 @@ unfoldable pub bap_at : Parameters → List ℕ → List Segment → ℕ → Lis
 bap_at p thresholds segments end exp bin = held_bap (level_at p thresholds segments end exp (entry masktab bin)) (get_or exp bin 0)
 
 -- with the values of a sheet
-unfoldable pub held_below : Common → ChannelRecord → ℕ → List ℕ → ℕ → ℕ
+unfoldable pub held_below : Common → ChannelCodes → ℕ → List ℕ → ℕ → ℕ
 held_below common channel end exp =
     bap_at (parameters_of common channel) (row hth common.fscod) (segments_of channel) end exp
 
 -- and of any bin
-unfoldable pub held_bin : Common → ChannelRecord → ℕ → List ℕ → ℕ → ℕ
+unfoldable pub held_bin : Common → ChannelCodes → ℕ → List ℕ → ℕ → ℕ
 held_bin common channel end exp bin = cond (ltb bin end) (held_below common channel end exp bin) 0
 
 -- ---- what the code needs of the numbers it is given

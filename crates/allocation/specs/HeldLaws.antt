@@ -16,7 +16,7 @@ use Rattle.tables.proofs.Rules.{masktab-most, dbpbtab-most, hth-least}
 use Rattle.sheet.specs.Ranges.{lfe_end}
 use Rattle.sheet.specs.Record.{segments_of}
 use Rattle.sheet.specs.declared.common_part.Common.{Common}
-use Rattle.sheet.specs.declared.record.ChannelRecord.{ChannelRecord}
+use Rattle.sheet.specs.declared.record.ChannelCodes.{ChannelCodes}
 use Rattle.excitation.specs.Signed.{hold}
 use Rattle.excitation.specs.SignedLaws.{hold-sub, hold-shr, pos-diff-sub, diff-sub}
 use Rattle.excitation.specs.Psd.{psd}
@@ -91,7 +91,7 @@ address-held power level =
 
 -- ---- the whole
 
-module _ (common : Common) (channel : ChannelRecord) (legal : LegalCodes common channel) (end : ℕ) (exp : List ℕ) where
+module _ (common : Common) (channel : ChannelCodes) (legal : LegalCodes common channel) (end : ℕ) (exp : List ℕ) where
   knee-most : dbknee_of common ≤ 3008
   unfolding dbknee_of
   knee-most = omega (arith, dbpbtab-most common.dbpbcod)

@@ -3,11 +3,11 @@ use Rattle.std.specs.Prelude.{ℕ, ℤ, pos, ◌+ℤ◌, ◌-ℤ◌, ◌*ℤ◌}
 use Rattle.tables.specs.Entry.{entry}
 use Rattle.tables.specs.Parameters.{slowdec, fastdec, slowgain, dbpbtab, floortab, fastgain, signed16}
 use Rattle.sheet.specs.declared.common_part.Common.{Common}
-use Rattle.sheet.specs.declared.record.ChannelRecord.{ChannelRecord}
+use Rattle.sheet.specs.declared.record.ChannelCodes.{ChannelCodes}
 use Rattle.excitation.specs.declared.excitation.LeakParameters.{LeakParameters}
 
 -- sdecay = slowdec[sdcycod], fdecay = fastdec[fdcycod], sgain = slowgain[sgaincod], fgain = fastgain[fgaincod]
-unfoldable pub leak_of : Common → ChannelRecord → LeakParameters
+unfoldable pub leak_of : Common → ChannelCodes → LeakParameters
 leak_of common channel =
     record {
       sdecay = entry slowdec common.sdcycod;
@@ -28,5 +28,5 @@ floor_of common = signed16 (entry floortab common.floorcod)
 unfoldable pub snroffset : ℕ → ℕ → ℤ
 snroffset csnroffst fsnroffst = ((pos csnroffst -ℤ pos 15) *ℤ pos 16 +ℤ pos fsnroffst) *ℤ pos 4
 
-unfoldable pub snroffset_of : Common → ChannelRecord → ℤ
+unfoldable pub snroffset_of : Common → ChannelCodes → ℤ
 snroffset_of common channel = snroffset common.csnroffst channel.fsnroffst

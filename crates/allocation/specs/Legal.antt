@@ -4,10 +4,10 @@ use Rattle.sheet.specs.Legal.{LegalSegment}
 use Rattle.sheet.specs.Record.{segments_of}
 use Rattle.sheet.specs.Ranges.{legal_end}
 use Rattle.sheet.specs.declared.common_part.Common.{Common}
-use Rattle.sheet.specs.declared.record.ChannelRecord.{ChannelRecord}
+use Rattle.sheet.specs.declared.record.ChannelCodes.{ChannelCodes}
 
 -- every code is in its range of document 01, "The track sheet"; a segment from nseg on is not looked at
-pub record LegalCodes (common : Common) (channel : ChannelRecord) : Type 0 where
+pub record LegalCodes (common : Common) (channel : ChannelCodes) : Type 0 where
   pub fscod : common.fscod ≤ 2
   pub sdcycod : common.sdcycod ≤ 3
   pub fdcycod : common.fdcycod ≤ 3

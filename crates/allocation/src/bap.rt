@@ -2,8 +2,9 @@
 ghost use Rattle.std.specs.Prelude.{◌≡◌, ℕ, ◌+◌, ◌-◌, ◌*◌, ◌<◌, ◌≤◌, min, get_or, length, replicate, take};
 ghost use Rattle.bits.specs.Parts.{tab};
 ghost use Rattle.tables.specs.Quantizer as quantizer;
+ghost use Rattle.excitation.specs.BandOrder.{Bands};
 ghost use Rattle.excitation.specs.Front.{front};
-ghost use Rattle.allocation.specs.Held.{BandArrays, BandBases, Small, bap_from, base_by, base_of};
+ghost use Rattle.allocation.specs.Held.{BandArrays, BandBases, Small, bap_by, bap_from, base_by, base_of};
 
 use crate::initialization::Parameters;
 use crate::window::window;
@@ -33,7 +34,7 @@ fn band_base(
 
 // The bases of the first bands, 111 for the others: every base lies in the window. A loop without a branch over arrays of numbers of one size, which
 // can be made of vectors.
-pub(crate) fn band_bases(
+fn band_bases(
     bands: usize,
     p: Parameters,
     powers: &[u16; 51],
@@ -123,15 +124,15 @@ fn fill_singles(exp: &[u8], bins: usize, bases: &[u16; 50], bap: &mut [u8])
 }
 
 // At least so many bands, four at a time where there are so many, so that none is left over from a loop that is made of vectors.
-pub(crate) fn by_fours(bands: usize) -> usize
+fn by_fours(bands: usize) -> usize
     requires { bands ≤ 50 }
     ensures { (bands ≤ result) × (result ≤ 50) }
 {
     bands.next_multiple_of(4).min(50)
 }
 
-// All bins.
-pub(crate) fn fill_bins(exp: &[u8], bases: &[u16; 50], bap: &mut [u8])
+// All bins, by the bases of their bands.
+fn fill_by_bases(exp: &[u8], bases: &[u16; 50], bap: &mut [u8])
     requires exp_len { (length exp.now ≤ 253) × (length exp.now ≡ length bap.old) }
     requires by_index { (bin : ℕ) → bin < length exp.now → get_or exp.now bin 0 ≤ 24 }
     requires band_bases { BandBases bases.now }
@@ -143,4 +144,27 @@ pub(crate) fn fill_bins(exp: &[u8], bases: &[u16; 50], bap: &mut [u8])
     }
     fill_singles(exp, SINGLES, bases, bap);
     fill_joined(exp, bases, bap);
+}
+
+// All bins below end, by the arrays of the bands, each of its own: it is public, and takes any.
+pub fn fill_bins(
+    exp: &[u8],
+    end: usize,
+    bands: usize,
+    p: Parameters,
+    powers: &[u16; 51],
+    excites: &[u16; 50],
+    added: &[u16; 50],
+    hth: &[u16; 50],
+    bap: &mut [u8],
+)
+    requires end_bound { (end ≤ 253) × (end ≤ length exp.now) × (end ≤ length bap.old) }
+    requires bands { Bands end bands }
+    requires by_index { (bin : ℕ) → bin < end → get_or exp.now bin 0 ≤ 24 }
+    requires small { Small p }
+    requires band_arrays { BandArrays powers.now excites.now added.now hth.now }
+    ensures { take end bap.new ≡ tab end (bap_by p powers.now excites.now added.now hth.now exp.now) }
+{
+    let bases = band_bases(by_fours(bands), p, powers, excites, added, hth);
+    fill_by_bases(&exp[..end], &bases, &mut bap[..end]);
 }

@@ -3,16 +3,16 @@ ghost use Rattle.std.specs.Prelude.{◌≡◌, length};
 ghost use Rattle.allocation.specs.Allocation.{allocated, answer_of, left_in};
 ghost use Rattle.allocation.specs.Legal.{LegalBins, LegalCodes};
 
-use crate::bap::{band_bases, by_fours, fill_bins};
+use crate::bap::fill_bins;
 use crate::initialization::initialize;
 use crate::ranges::{exponents_fit, in_range, right_lengths};
 use bits::Refusal;
 use excitation::{band_powers, excite_bands};
 use masking::band_deltas;
-use sheet::{ChannelRecord, Common};
+use sheet::{ChannelCodes, Common};
 
 // The pointers of the bins below end, 0 from end on.
-pub fn allocate(exp: &[u8], end: usize, common: &Common, channel: &ChannelRecord, bap: &mut [u8])
+pub fn allocate(exp: &[u8], end: usize, common: &Common, channel: &ChannelCodes, bap: &mut [u8])
     requires legal_codes { LegalCodes common.now channel.now }
     requires legal_bins { LegalBins exp.now end (length bap.old) }
     ensures { bap.new ≡ allocated common.now channel.now end exp.now (length bap.old) }
@@ -25,8 +25,7 @@ pub fn allocate(exp: &[u8], end: usize, common: &Common, channel: &ChannelRecord
     let mut excites = [0u16; 50];
     excite_bands(p.leak, end == 7, &powers, bands, &mut excites);
     let added = band_deltas(channel.segments_in_use());
-    let bases = band_bases(by_fours(bands), p, &powers, &excites, &added, hth);
-    fill_bins(bins, &bases, &mut bap[..end]);
+    fill_bins(exp, end, bands, p, &powers, &excites, &added, hth, bap);
     bap[end..].fill(0);
 }
 
@@ -34,7 +33,7 @@ pub fn compute_bap(
     exp: &[u8],
     end: usize,
     common: &Common,
-    channel: &ChannelRecord,
+    channel: &ChannelCodes,
     bap: &mut [u8],
 ) -> Result<(), Refusal>
     ensures value { result ≡ answer_of common.now channel.now end exp.now (length bap.old) }

@@ -4,7 +4,7 @@ ghost use Rattle.allocation.specs.Legal.{LegalCodes};
 ghost use Rattle.allocation.specs.Held.{held_floor, held_offset, parameters_of};
 
 use excitation::LeakParameters;
-use sheet::{ChannelRecord, Common};
+use sheet::{ChannelCodes, Common};
 
 // The floor is 2048 up, the offset 960 up: neither is negative then.
 #[derive(Clone, Copy, Debug, PartialEq, Eq)]
@@ -30,7 +30,7 @@ fn held_offset(csnroffst: u8, fsnroffst: u8) -> u32
     64 * u32::from(csnroffst) + 4 * u32::from(fsnroffst)
 }
 
-pub fn initialize(common: &Common, channel: &ChannelRecord) -> Parameters
+pub fn initialize(common: &Common, channel: &ChannelCodes) -> Parameters
     requires { LegalCodes common.now channel.now }
     ensures { result ≡ parameters_of common.now channel.now }
 {

@@ -11,7 +11,7 @@ ghost use Rattle.allocation.specs.Allocation.{
 };
 
 use elements::Segment;
-use sheet::{ChannelRecord, Common, legal_end};
+use sheet::{ChannelCodes, Common, legal_end};
 
 fn common_codes(common: &Common) -> bool
     ensures { result ≡ common_codes common.now }
@@ -38,7 +38,7 @@ fn segments_in_range(segments: &[Segment]) -> bool
     segments.iter().all(|segment| segment_in_range(segment))
 }
 
-fn channel_codes(channel: &ChannelRecord) -> bool
+fn channel_codes(channel: &ChannelCodes) -> bool
     ensures { result ≡ channel_codes channel.now }
 {
     if 8 < channel.nseg {
@@ -49,7 +49,7 @@ fn channel_codes(channel: &ChannelRecord) -> bool
 }
 
 // Every code and the end.
-pub fn in_range(common: &Common, channel: &ChannelRecord, end: usize) -> bool
+pub fn in_range(common: &Common, channel: &ChannelCodes, end: usize) -> bool
     ensures { result ≡ in_range common.now channel.now end }
 {
     common_codes(common) & channel_codes(channel) & legal_end(end)

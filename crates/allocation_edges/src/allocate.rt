@@ -4,7 +4,7 @@ ghost use Rattle.std.specs.Prelude.{◌≤◌};
 use crate::channels::{Codes, Segments, channel_of, none};
 use crate::exponents::{Exponents, fill};
 use crate::show;
-use sheet::{ChannelRecord, Common};
+use sheet::{ChannelCodes, Common};
 use std::io;
 
 fn call(
@@ -12,7 +12,7 @@ fn call(
     exp: &[u8],
     end: usize,
     common: &Common,
-    channel: &ChannelRecord,
+    channel: &ChannelCodes,
     bap: &mut [u8],
 ) -> io::Result<()> {
     let number = match allocation::compute_bap(exp, end, common, channel, bap) {

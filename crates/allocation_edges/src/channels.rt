@@ -1,7 +1,7 @@
-// The codes and segments of a case as the common part and the record that an allocation takes.
+// The codes and segments of a case as the common part and the channel's codes that an allocation takes.
 // Every value that it does not look at is out of its range. replay/src/allocation_steps.rt has functions like these: each test program stands alone.
-use elements::{BlockSet, ExponentSet, Segment};
-use sheet::{ChannelRecord, Common};
+use elements::Segment;
+use sheet::{ChannelCodes, Common};
 
 #[derive(Clone, Copy)]
 pub struct Codes {
@@ -87,16 +87,9 @@ impl From<Codes> for Common {
     }
 }
 
-// Reuse in block 0 is what no sheet may hold.
-pub(crate) fn channel_of(codes: Codes, segments: Segments) -> ChannelRecord {
-    let blocks = [BlockSet {
-        set: ExponentSet::Reuse,
-    }; 6];
+pub(crate) fn channel_of(codes: Codes, segments: Segments) -> ChannelCodes {
     let eight = segments.segments;
-    ChannelRecord {
-        channel: 255,
-        end: 255,
-        blocks,
+    ChannelCodes {
         fsnroffst: codes.fsnroffst,
         fgaincod: codes.fgaincod,
         nseg: segments.nseg,

@@ -24,7 +24,7 @@ sets_bits settings b row = joined (channels settings) (λ c. set_bits (set_at se
 -- the bap of a channel: the allocation of these exponents by its record and the common part (A/52 7.2.2);
 -- 256 entries, 0 from end on
 unfoldable pub bap_part : Settings → ℕ → List ℕ → List ℕ
-bap_part settings c part = allocated settings.common (record_at settings c) (end_at settings c) part 256
+bap_part settings c part = allocated settings.common (record_at settings c).codes (end_at settings c) part 256
 
 -- the bap of a block
 unfoldable pub bap_row : Settings → List ℕ → List ℕ

@@ -33,14 +33,14 @@ clean-clean end part h = ap (λ (l : List ℕ). l ++ replicate (256 - end) 0) (t
 
 pub length-bap_part : (settings : Settings) (c : ℕ) (part : List ℕ) → length (bap_part settings c part) ≡ 256
 unfolding bap_part
-length-bap_part settings c part = length-allocated settings.common (record_at settings c) (end_at settings c) part 256
+length-bap_part settings c part = length-allocated settings.common (record_at settings c).codes (end_at settings c) part 256
 
 -- the allocation depends on the exponents below end only
 pub bap_part-same : (settings : Settings) (c : ℕ) (part other : List ℕ) → take (end_at settings c) part ≡ take (end_at settings c) other
     → bap_part settings c part ≡ bap_part settings c other
 unfolding bap_part
 bap_part-same settings c part other e =
-    allocated_same settings.common (record_at settings c) (end_at settings c) part other 256
+    allocated_same settings.common (record_at settings c).codes (end_at settings c) part other 256
     (λ i h. sym (get_or-take (end_at settings c) part i 0 h) ∙ ap (λ (l : List ℕ). get_or l i 0) e ∙ get_or-take (end_at settings c) other i 0 h)
 
 -- a list whose entries from n on are 0
@@ -55,7 +55,7 @@ zeros-from (suc n) (x ∷ l) h = rw (suc-sub-suc) (ap (λ (t : List ℕ). x ∷ 
 
 bap_part-past : (settings : Settings) (c : ℕ) (part : List ℕ) (i : ℕ) → end_at settings c ≤ i → get_or (bap_part settings c part) i 0 ≡ 0
 unfolding bap_part
-bap_part-past settings c part i h = allocated-past settings.common (record_at settings c) (end_at settings c) part 256 i h
+bap_part-past settings c part i h = allocated-past settings.common (record_at settings c).codes (end_at settings c) part 256 i h
 
 -- from end on an allocation is 0
 pub bap_part-clean : (settings : Settings) (c : ℕ) (part : List ℕ) → clean (end_at settings c) (bap_part settings c part) ≡ bap_part settings c part

@@ -18,7 +18,7 @@ pub record Channel (settings : Settings) (c : ℕ) : Type 0 where
   pub end-least : 7 ≤ end_at settings c
   pub end-most : end_at settings c ≤ 253
   pub first : set_at settings 0 c ≡ Reuse → ⊥
-  pub codes : LegalCodes settings.common (record_at settings c)
+  pub codes : LegalCodes settings.common (record_at settings c).codes
 
 pub channel-known : (settings : Settings) → LegalSettings settings → (c : ℕ) → c < channels settings → Channel settings c
 channel-known settings under c l =

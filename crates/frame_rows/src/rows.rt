@@ -17,7 +17,7 @@ fn allocate_part(track: &Track, c: usize, set: ExponentSet, part: &[u8], bap: &m
     if let ExponentSet::New(_) = set {
         let end = track.end_at(c);
         let channel = track.record_at(c);
-        allocation::allocate(part, end, &track.settings.common, channel, bap);
+        allocation::allocate(part, end, &track.settings.common, &channel.codes, bap);
     }
 }
 

@@ -33,10 +33,10 @@ module _ (sheet : List ℕ) (channel : ℕ) (exp bap : List ℕ) (common : Commo
       let few : channel < 6 = omega (arith, ltb-true channel (channels_of (common_of sheet)) both.0, (legal-sheet sheet both.1).common.channels-most) in
       q ∙ sym (settings-record sheet both.1 channel few)
 
-  pub called-answer : (answer : Result (Unit {0}) Refusal) → answer ≡ answer_of common chosen end exp (length bap) → answer ≡ allocation_answer sheet channel exp (length bap)
+  pub called-answer : (answer : Result (Unit {0}) Refusal) → answer ≡ answer_of common chosen.codes end exp (length bap) → answer ≡ allocation_answer sheet channel exp (length bap)
   unfolding allocation_answer end_at
   called-answer answer e = rw accepted (rw (w, same, is) at e)
 
-  pub called-left : (bap' : List ℕ) → bap' ≡ left_in common chosen end exp bap → bap' ≡ allocation_left sheet channel exp bap
+  pub called-left : (bap' : List ℕ) → bap' ≡ left_in common chosen.codes end exp bap → bap' ≡ allocation_left sheet channel exp bap
   unfolding allocation_left end_at
   called-left bap' e = rw accepted (rw (w, same, is) at e)

@@ -81,13 +81,13 @@ allocation_check sheet channel = check_beside (ltb channel (channels_of (common_
 unfoldable pub allocation_answer : List ℕ → ℕ → List ℕ → ℕ → Result (Unit {0}) Refusal
 allocation_answer sheet channel exp size =
     checked (allocation_check sheet channel)
-    (answer_of (settings_of sheet).common (record_at (settings_of sheet) channel) (end_at (settings_of sheet) channel) exp size)
+    (answer_of (settings_of sheet).common (record_at (settings_of sheet) channel).codes (end_at (settings_of sheet) channel) exp size)
 
 -- bap afterwards: a sheet or a channel that is refused leaves it
 unfoldable pub allocation_left : List ℕ → ℕ → List ℕ → List ℕ → List ℕ
 allocation_left sheet channel exp bap =
     kept (allocation_check sheet channel)
-    (left_in (settings_of sheet).common (record_at (settings_of sheet) channel) (end_at (settings_of sheet) channel) exp bap) bap
+    (left_in (settings_of sheet).common (record_at (settings_of sheet) channel).codes (end_at (settings_of sheet) channel) exp bap) bap
 
 -- ---- a frame
 

@@ -246,7 +246,7 @@ module _ (sheet : List ℕ) (channel : ℕ) (exp bap : List ℕ) where
   -- an accepted sheet's settings hold what stands among its bytes
   pub allocation-called : (common : Common) (chosen : ChannelRecord) (answer : Result (Unit {0}) Refusal) (bap' : List ℕ) → allocation_check sheet channel ≡ Ok tt
       → common ≡ common_of sheet → chosen ≡ record_of sheet channel
-      → answer ≡ answer_of common chosen chosen.end exp (length bap) → bap' ≡ left_in common chosen chosen.end exp bap
+      → answer ≡ answer_of common chosen.codes chosen.end exp (length bap) → bap' ≡ left_in common chosen.codes chosen.end exp bap
       → (answer ≡ allocation_answer sheet channel exp (length bap)) × (bap' ≡ allocation_left sheet channel exp bap)
   unfolding allocation_answer allocation_left end_at
   allocation-called common chosen answer bap' e p q a l =

@@ -14,7 +14,7 @@ fn compute_bap(sheet: &[u8], c: usize, exp: &[u8], bap: &mut [u8]) -> Result<(),
     let common = sheet::common_of(sheet);
     sheet::check_beside(sheet, c < sheet::channels_of(common))?;
     let chosen = sheet::record_of(sheet, c);
-    allocation::compute_bap(exp, usize::from(chosen.end), &common, &chosen, bap)
+    allocation::compute_bap(exp, usize::from(chosen.end), &common, &chosen.codes, bap)
 }
 
 #[unsafe(no_mangle)]

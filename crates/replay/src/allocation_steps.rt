@@ -4,8 +4,8 @@ ghost use Rattle.std.specs.Prelude.{◌<◌};
 
 use crate::cases::Case;
 use crate::compare::same_refusal;
-use elements::{BlockSet, ExponentSet, Segment};
-use sheet::{ChannelRecord, Common};
+use elements::Segment;
+use sheet::{ChannelCodes, Common};
 
 // A value that is in no range stands where there is no byte, and in what an allocation does not look at.
 const NONE: u8 = 255;
@@ -40,13 +40,8 @@ fn segment_at(segments: &[u8], k: usize) -> Segment
     }
 }
 
-fn channel_of(codes: &[u8], segments: &[u8]) -> ChannelRecord {
-    ChannelRecord {
-        channel: NONE,
-        end: NONE,
-        blocks: [BlockSet {
-            set: ExponentSet::Reuse,
-        }; 6],
+fn channel_of(codes: &[u8], segments: &[u8]) -> ChannelCodes {
+    ChannelCodes {
         fsnroffst: byte_at(codes, 7),
         fgaincod: byte_at(codes, 8),
         nseg: (segments.len() / 3 % 256) as u8,

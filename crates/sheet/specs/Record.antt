@@ -7,6 +7,7 @@ use Rattle.elements.specs.declared.set.ExponentSet.{ExponentSet}
 use Rattle.elements.specs.declared.set.ExponentSet.TheVariants.{Reuse, New}
 use Rattle.elements.specs.declared.strategy.Strategy.TheVariants.{D15, D25, D45}
 use Rattle.sheet.specs.Grammar.{nseg_of, records_of}
+use Rattle.sheet.specs.declared.record.ChannelCodes.{ChannelCodes}
 use Rattle.sheet.specs.declared.record.ChannelRecord.{ChannelRecord}
 
 -- ---- the bytes of a record: channel, end, six strategies, fsnroffst, fgaincod, nseg, then nseg times offst, len, ba
@@ -73,20 +74,15 @@ segment_at r i = record { offst = segment_value r offst_at i; len = segment_valu
 abbrev pub eight_segments : List ℕ → List Segment
 eight_segments r = eight_of (segment_at r)
 
+-- what the allocation takes of it
+abbrev pub record_codes : List ℕ → ChannelCodes
+record_codes r = record { fsnroffst = fsnroffst_of r; fgaincod = fgaincod_of r; nseg = nseg_of r; segments = eight_segments r }
+
 abbrev pub channel_record : List ℕ → ChannelRecord
-channel_record r =
-    record {
-      channel = channel_of r;
-      end = end_of r;
-      blocks = blocks_of r;
-      fsnroffst = fsnroffst_of r;
-      fgaincod = fgaincod_of r;
-      nseg = nseg_of r;
-      segments = eight_segments r;
-    }
+channel_record r = record { channel = channel_of r; end = end_of r; blocks = blocks_of r; codes = record_codes r }
 
 -- those that the record says that it has
-abbrev pub segments_of : ChannelRecord → List Segment
+abbrev pub segments_of : ChannelCodes → List Segment
 segments_of v = take v.nseg v.segments
 
 -- ---- the record of a channel: one for each, in ascending channel number (document 02, W1), so that of channel c has c before it

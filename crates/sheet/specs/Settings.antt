@@ -29,7 +29,7 @@ channels settings = channels_of settings.common
 
 -- past the records that settings have
 abbrev pub no_record : ChannelRecord
-no_record = record { channel = 0; end = 0; blocks = []; fsnroffst = 0; fgaincod = 0; nseg = 0; segments = [] }
+no_record = record { channel = 0; end = 0; blocks = []; codes = record { fsnroffst = 0; fgaincod = 0; nseg = 0; segments = [] } }
 
 -- the record of channel c
 unfoldable pub record_at : Settings → ℕ → ChannelRecord

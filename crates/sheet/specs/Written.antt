@@ -14,11 +14,11 @@ strategy_written v block = code_of_set (get_or v.blocks block (record { set = Re
 
 -- offst, len and ba of segment i
 unfoldable pub segment_written : ChannelRecord → ℕ → List ℕ
-segment_written v i = let s = get_or v.segments i no_segment in s.offst ∷ s.len ∷ s.ba ∷ []
+segment_written v i = let s = get_or v.codes.segments i no_segment in s.offst ∷ s.len ∷ s.ba ∷ []
 
 unfoldable pub record_written : ChannelRecord → List ℕ
 record_written v =
-    v.channel ∷ v.end ∷ six_of (strategy_written v) ++ (v.fsnroffst ∷ v.fgaincod ∷ v.nseg ∷ joined v.nseg (segment_written v))
+    v.channel ∷ v.end ∷ six_of (strategy_written v) ++ (v.codes.fsnroffst ∷ v.codes.fgaincod ∷ v.codes.nseg ∷ joined v.codes.nseg (segment_written v))
 
 -- what follows the length: version 1, the common part, the records
 unfoldable pub rest_written : Settings → List ℕ

@@ -13,8 +13,9 @@ pub mod track;
 
 pub use check::{check_beside, check_sheet};
 pub use common_part::{Common, channels_of, common_of};
+pub use elements::{BlockSet, ExponentSet};
 pub use layout::{MOST_BUFFER, MOST_CHANNELS, MOST_RECORDS, MOST_ROW, buffer_length, part_start};
 pub use ranges::legal_end;
-pub use record::{ChannelRecord, record_of};
-pub use settings::Settings;
-pub use track::Track;
+pub use record::{ChannelCodes, ChannelRecord, record_of};
+pub use settings::{Settings, settings_of};
+pub use track::{Track, set_at};

@@ -6,6 +6,7 @@ ghost use Rattle.sheet.specs.Record.{
   channel_record,
   eight_segments,
   record_bytes,
+  record_codes,
   record_of,
   segment_at,
   segments_of,
@@ -17,11 +18,9 @@ use crate::read::byte_at;
 use crate::records::Records;
 use elements::{BlockSet, ExponentSet, Segment, Strategy};
 
+// What the allocation takes of a channel's record.
 #[derive(Clone, Copy)]
-pub struct ChannelRecord {
-    pub channel: u8,
-    pub end: u8,
-    pub blocks: [BlockSet; 6],
+pub struct ChannelCodes {
     pub fsnroffst: u8,
     pub fgaincod: u8,
     pub nseg: u8,
@@ -29,13 +28,21 @@ pub struct ChannelRecord {
     pub segments: [Segment; 8],
 }
 
-impl ChannelRecord {
+impl ChannelCodes {
     /// The first `nseg`.
     pub fn segments_in_use(&self) -> &[Segment]
         ensures { result.now ≡ segments_of self.now }
     {
         &self.segments[..usize::from(self.nseg).min(8)]
     }
+}
+
+#[derive(Clone, Copy)]
+pub struct ChannelRecord {
+    pub channel: u8,
+    pub end: u8,
+    pub blocks: [BlockSet; 6],
+    pub codes: ChannelCodes,
 }
 
 // 0 reuse, 1 D15, 2 D25, 3 D45.
@@ -96,19 +103,28 @@ fn eight_segments(bytes: &[u8]) -> [Segment; 8]
     )
 }
 
-fn channel_record(bytes: &[u8]) -> ChannelRecord
-    ensures { result ≡ channel_record bytes.now }
+fn record_codes(bytes: &[u8]) -> ChannelCodes
+    ensures { result ≡ record_codes bytes.now }
 {
-    let blocks = blocks_of(bytes);
     let segments = eight_segments(bytes);
-    ChannelRecord {
-        channel: byte_at(bytes, 0),
-        end: byte_at(bytes, 1),
-        blocks,
+    ChannelCodes {
         fsnroffst: byte_at(bytes, 8),
         fgaincod: byte_at(bytes, 9),
         nseg: byte_at(bytes, 10),
         segments,
+    }
+}
+
+fn channel_record(bytes: &[u8]) -> ChannelRecord
+    ensures { result ≡ channel_record bytes.now }
+{
+    let blocks = blocks_of(bytes);
+    let codes = record_codes(bytes);
+    ChannelRecord {
+        channel: byte_at(bytes, 0),
+        end: byte_at(bytes, 1),
+        blocks,
+        codes,
     }
 }
 

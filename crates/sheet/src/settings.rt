@@ -1,10 +1,12 @@
 // What a sheet sets, by value: the common part, and a record for each channel.
 ghost use Rattle.std.specs.Prelude.{◌≡◌, ◌<◌};
+ghost use Rattle.sheet.specs.Settings.{settings_of};
+ghost use Rattle.sheet.specs.Sheet.{check_of};
 ghost use Rattle.sheet.specs.Sizes.{most_channels};
 
-use crate::common_part::Common;
+use crate::common_part::{Common, common_of};
 use crate::layout::{MOST_CHANNELS, MOST_RECORDS};
-use crate::record::ChannelRecord;
+use crate::record::{ChannelRecord, record_of};
 use elements::{BlockSet, ExponentSet};
 
 // The records by channel number; that of a channel which is not there is all 0.
@@ -12,6 +14,24 @@ use elements::{BlockSet, ExponentSet};
 pub struct Settings {
     pub common: Common,
     pub records: [ChannelRecord; MOST_RECORDS],
+}
+
+// Those of an accepted sheet, whose records stand in the order of their channels. Inlined: else a `Track` would be filled by a copy of them.
+#[inline(always)]
+pub fn settings_of(sheet: &[u8]) -> Settings
+    requires { check_of sheet.now ≡ Ok tt }
+    ensures { result ≡ settings_of sheet.now }
+{
+    let common = common_of(sheet);
+    let records = [
+        record_of(sheet, 0),
+        record_of(sheet, 1),
+        record_of(sheet, 2),
+        record_of(sheet, 3),
+        record_of(sheet, 4),
+        record_of(sheet, 5),
+    ];
+    Settings { common, records }
 }
 
 impl Settings {

@@ -6,10 +6,10 @@ ghost use Rattle.sheet.specs.Sizes.{most_channels};
 ghost use Rattle.sheet.specs.Sheet.{check_of};
 
 use crate::check::check_sheet;
-use crate::common_part::{channels_of, common_of};
+use crate::common_part::channels_of;
 use crate::layout::MOST_CHANNELS;
-use crate::record::{ChannelRecord, record_of};
-use crate::settings::Settings;
+use crate::record::ChannelRecord;
+use crate::settings::{Settings, settings_of};
 use bits::Refusal;
 use elements::{BlockSet, ExponentSet};
 
@@ -22,23 +22,12 @@ pub struct Track {
     pub ghost legal: { LegalSettings settings },
 }
 
-// Of an accepted sheet, whose records stand in the order of their channels.
+// Of an accepted sheet.
 fn accepted(sheet: &[u8]) -> Track
     requires { check_of sheet.now ≡ Ok tt }
     ensures { result.settings ≡ settings_of sheet.now }
 {
-    let records = [
-        record_of(sheet, 0),
-        record_of(sheet, 1),
-        record_of(sheet, 2),
-        record_of(sheet, 3),
-        record_of(sheet, 4),
-        record_of(sheet, 5),
-    ];
-    let settings = Settings {
-        common: common_of(sheet),
-        records,
-    };
+    let settings = settings_of(sheet);
     Track {
         settings,
         strategies: settings.strategies(),

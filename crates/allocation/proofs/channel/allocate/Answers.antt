@@ -1,9 +1,8 @@
 -- The arrays of the bands, the pointers below end, then 0: the laws of Allocating.antt.
-use Rattle.std.proofs.Common.{refl, sym, ap, ◌∙◌, arith, length}
+use Rattle.std.proofs.Common.{refl, ap, ◌∙◌, arith, length}
 use Rattle.bits.specs.PartsLaws.{length-tab}
 use Rattle.sheet.specs.RangesLaws.{end-bounds}
 use Rattle.allocation.proofs.ByBand.{array_long}
-use Rattle.allocation.proofs.Filling.{bases-fit, filled-by}
 use Rattle.allocation.proofs.Allocating as law
 use Rattle.allocation.proofs.channel.allocate.Goals as goal
 
@@ -29,18 +28,18 @@ excite_bands-requires c =
       by_index = λ k. omega (arith, most k);
     }
 
-pub by_fours-requires : goal.by_fours-requires
-by_fours-requires c = c.band_powers-bands.ensures.bands.few
-
-pub band_bases-bases-requires : goal.band_bases-bases-requires
-band_bases-bases-requires c =
+pub fill_bins-requires : goal.fill_bins-requires
+fill_bins-requires c =
     let legal = c.requires.legal_codes in
+    let l = c.requires.legal_bins in
     let b = c.band_powers-bands.ensures in
     let x = c.excite_bands.ensures in
     let h = c.hth-hth.ensures in
     let added = law.deltas-small c.args.channel.now _ (rw c.segments_in_use.ensures at c.band_deltas-added.ensures) legal.segments in
     record {
-      bands_bound = c.by_fours.ensures.1;
+      end_bound = ((end-bounds c.args.end l.legal).most, l.held, l.room);
+      bands = law.bins-bands _ _ _ l.held b.bands;
+      by_index = l.most;
       small = law.parameters-small _ _ _ legal c.initialize-p.ensures;
       band_arrays = (
         ap length b.powers_after ∙ length-tab 51 _,
@@ -54,16 +53,6 @@ band_bases-bases-requires c =
       );
     }
 
-pub fill_bins-requires : goal.fill_bins-requires
-fill_bins-requires c =
-    let l = c.requires.legal_bins in
-    let few = (end-bounds c.args.end l.legal).most in
-    record {
-      exp_len = (omega (arith, law.bins-long _ _ l.held, few), law.bins-long _ _ l.held ∙ sym (law.bins-long _ _ l.room));
-      by_index = law.bins-most _ _ l.held l.most;
-      band_bases = bases-fit _ _ _ _ _ _ _ _ c.by_fours.ensures.1 c.band_bases-bases.ensures refl;
-    }
-
 pub returns : goal.returns
 returns c =
     let l = c.requires.legal_bins in
@@ -73,8 +62,4 @@ returns c =
     let few = (end-bounds c.args.end l.legal).most in
     let added = rw c.segments_in_use.ensures at c.band_deltas-added.ensures in
     let arrays = law.arrays _ _ _ _ _ _ _ _ _ _ _ c.initialize-p.ensures bands (law.bins-powers _ _ _ l.held b.powers_after) c.excite_bands.ensures refl added c.hth-hth.ensures in
-    let front = law.bins-filled _ _ c.args.bap.now _ _ l.held l.room c.fill_bins.ensures in
-    let filled =
-    filled-by _ _ _ _ _ _ _ _ c.by_fours.ensures.1 c.band_bases-bases.ensures refl _ _ _ _ (law.parameters-small _ _ _ legal c.initialize-p.ensures).2
-    (law.thresholds-least _ _ legal.fscod c.hth-hth.ensures) few bands c.by_fours.ensures.0 l.most front.1 in
-    law.allocate-done _ _ legal _ few _ _ _ _ _ _ _ arrays _ _ _ (omega (arith, front.0, l.room)) front.0 filled (c.fill.ensures.after (λ y e. e))
+    law.allocate-done _ _ legal _ few _ _ _ _ _ _ _ arrays _ _ _ (omega (arith, c.fill_bins.auto.bap, l.room)) c.fill_bins.auto.bap c.fill_bins.ensures (c.fill.ensures.after (λ y e. e))
