@@ -1,7 +1,10 @@
 // Prints the published tables of A/52 7.2.3 and 7.3 as docs/a52-tables.txt has them: a title, then rows of ten entries behind the index
 // of the first, hexadecimal where the standard prints that. A level of 7.3 is printed as the bits of its f32.
-ghost use Rattle.std.specs.Prelude.{◌≡◌, ◌≤◌, ◌<◌, length};
-ghost use Rattle.tables.specs.Quantizer.{level_count};
+ghost use Rattle.std.specs.Prelude.{◌≡◌, ◌≤◌, ◌<◌, length, map};
+ghost use Rattle.std.specs.List.{range_with_len};
+ghost use Rattle.std.specs.Float.{binary32};
+ghost use Rattle.std.specs.Float.Ieee.{to_bits};
+ghost use Rattle.tables.specs.Quantizer.{level, level_count};
 
 use std::array::from_fn;
 use std::io;
@@ -67,8 +70,8 @@ fn bands(rt: &impl Print) -> io::Result<()> {
 }
 
 fn masking(rt: &impl Print) -> io::Result<()> {
-    let latab: [u8; 256] = from_fn(tables::latab);
-    print_table(rt, "Table 7.14 latab (256 entries)", &latab, Some(2))?;
+    let title = "Table 7.14 latab (256 entries)";
+    print_table(rt, title, &tables::latab_table(), Some(2))?;
     let title = "Table 7.15 hth, fscod 0 (48 kHz) (50 entries)";
     print_table(rt, title, tables::hth(0), Some(4))?;
     let title = "Table 7.15 hth, fscod 1 (44.1 kHz) (50 entries)";
@@ -83,15 +86,24 @@ fn quantizer(rt: &impl Print) -> io::Result<()> {
     print_table(rt, title, tables::quantization_bits(), None)
 }
 
-// The bits of a bap's levels.
-fn level_bits<const L: usize>(bap: u8) -> [u32; L]
-    requires { (1 ≤ bap) × (bap ≤ 5) × (L ≡ level_count bap) }
+// The bits of a level.
+fn level_bits(bap: u8, i: usize) -> u32
+    requires { (1 ≤ bap) × (bap ≤ 5) × (i < level_count bap) }
+    ensures { result ≡ to_bits binary32 (level (level_count bap) i) }
 {
-    from_fn(
-        |i: usize|
-            requires { (1 ≤ bap) × (bap ≤ 5) × (i < level_count bap) }
-        { f32::to_bits(tables::mant_level(bap)[i]) },
-    )
+    f32::to_bits(tables::mant_level(bap)[i])
+}
+
+// Those of a bap's levels. A loop: of `from_fn` with a closure that holds the bap it stayed open which bap a turn has.
+fn levels_bits<const L: usize>(bap: u8) -> [u32; L]
+    requires { (1 ≤ bap) × (bap ≤ 5) × (L ≡ level_count bap) }
+    ensures { result ≡ map (λ i. to_bits binary32 (level (level_count bap) i)) (range_with_len 0 (level_count bap)) }
+{
+    let mut bits = [0u32; L];
+    for i in 0..L {
+        bits[i] = level_bits(bap, i);
+    }
+    bits
 }
 
 #[tactic(auto, unfolding(tables::specs::Quantizer::level_count))]
@@ -99,31 +111,31 @@ fn levels(rt: &impl Print) -> io::Result<()> {
     print_table(
         rt,
         "Table 7.19 bap 1, 3 levels",
-        &level_bits::<3>(1),
+        &levels_bits::<3>(1),
         Some(8),
     )?;
     print_table(
         rt,
         "Table 7.20 bap 2, 5 levels",
-        &level_bits::<5>(2),
+        &levels_bits::<5>(2),
         Some(8),
     )?;
     print_table(
         rt,
         "Table 7.21 bap 3, 7 levels",
-        &level_bits::<7>(3),
+        &levels_bits::<7>(3),
         Some(8),
     )?;
     print_table(
         rt,
         "Table 7.22 bap 4, 11 levels",
-        &level_bits::<11>(4),
+        &levels_bits::<11>(4),
         Some(8),
     )?;
     print_table(
         rt,
         "Table 7.23 bap 5, 15 levels",
-        &level_bits::<15>(5),
+        &levels_bits::<15>(5),
         Some(8),
     )
 }

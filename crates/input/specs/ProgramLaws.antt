@@ -17,16 +17,16 @@ use Rattle.input.specs.Input.{sheet_size, sheet_in, coefficient_bytes, coefficie
 use Rattle.input.specs.Program.{body_room, bytes_answer, program_answer}
 
 -- all that stands from `size` on
-rest-whole : (size : ℕ) (input : List ℕ) → take (length input - size) (drop size input) ≡ drop size input
+pub rest-whole : (size : ℕ) (input : List ℕ) → take (length input - size) (drop size input) ≡ drop size input
 rest-whole size input = ap (λ (k : ℕ). take k (drop size input)) (sym (length-drop size input)) ∙ take-length (drop size input)
 
 -- the sheet and the bytes after it as the code has them
 module _ (input : List ℕ) (size : ℕ) (e : size ≡ sheet_size input) where
-  sheet-read : take size input ≡ sheet_in input
+  pub sheet-read : take size input ≡ sheet_in input
   unfolding sheet_in
   sheet-read = ap (λ (k : ℕ). take k input) e
 
-  bytes_read : drop size input ≡ coefficient_bytes input
+  pub bytes_read : drop size input ≡ coefficient_bytes input
   unfolding coefficient_bytes
   bytes_read = ap (λ (k : ℕ). drop k input) e
 

@@ -1,11 +1,13 @@
 // What a call gave beside what the list has.
-ghost use Rattle.std.specs.Prelude.{◌≡◌, true, ◌&&◌, ◌==◌, ℕ, ◌*◌, eqb, ◌<◌, List, length};
+ghost use Rattle.std.specs.Prelude.{◌≡◌, true, ◌&&◌, ◌==◌, ℕ, ◌*◌, eqb, ◌<◌, List, length, MatchResult};
 ghost use Rattle.bits.specs.Answer.{given, number};
+ghost use Rattle.bits.specs.Refusal.{number_of};
 ghost use Rattle.replay.specs.Entries.{SameEntries, code_in, word_in, pattern_of};
 
 use crate::cases::Case;
 use crate::parts::{code_at, word_at};
 use bits::Refusal;
+use frame::BodyBits;
 
 // What a part of the list has entries of: how many bytes an entry has there, and what of it is compared.
 pub(crate) trait Entry: Copy {
@@ -120,4 +122,16 @@ pub(crate) fn same_answer(answer: Result<u32, Refusal>, case: Case) -> bool
     ensures { result ≡ (number answer == case.refusal) && (given answer == case.value) }
 {
     same_refusal(answer, case) & (answer.unwrap_or(0) == case.value)
+}
+
+// The refusal and the bits of the body, 0 of a refused one.
+pub(crate) fn same_frame_answer(answer: Result<BodyBits, Refusal>, case: Case) -> bool
+    ensures { MatchResult answer
+        (λ body. result ≡ (0 == case.refusal) && (body.bits == case.value))
+        (λ k. result ≡ (number_of k == case.refusal) && (0 == case.value)) }
+{
+    match answer {
+        Ok(body) => (0 == case.refusal) & (body.bits == case.value),
+        Err(refusal) => (refusal.number() == case.refusal) & (0 == case.value),
+    }
 }

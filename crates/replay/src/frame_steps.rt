@@ -1,6 +1,6 @@
 // The frame's three calls. What a call is to leave in a buffer is the part `left_..`. An output holds 165 in every byte before the call.
 use crate::cases::Case;
-use crate::compare::{same_answer, same_entries};
+use crate::compare::{same_entries, same_frame_answer};
 use crate::parts::{read_codes, read_coefficients};
 use bits::Refusal;
 use frame::BodyBits;
@@ -15,8 +15,7 @@ fn same_body_bits(answer: Result<BodyBits, Refusal>, case: Case, counts: &[u8]) 
         counts: [0; 12],
         bits: 0,
     });
-    same_answer(answer.map(|body| body.bits), case)
-        && (counts.is_empty() || same_entries(&body.counts, counts))
+    same_frame_answer(answer, case) && (counts.is_empty() || same_entries(&body.counts, counts))
 }
 
 pub(crate) fn encode_body(

@@ -11,6 +11,6 @@ pub mod quantizer;
 
 pub use bands::{bndsz, bndtab, masktab};
 pub use hearing::hth;
-pub use log_addition::latab;
+pub use log_addition::{latab, latab_table};
 pub use parameters::{dbpbtab, fastdec, fastgain, floortab, slowdec, slowgain};
 pub use quantizer::{baptab, mant_level, quantization_bits};

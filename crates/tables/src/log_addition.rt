@@ -30,3 +30,12 @@ pub fn latab(address: usize) -> u8
     let stored = LATAB[address.min(209)];
     if is_stored { stored } else { 0 }
 }
+
+// The whole table, for a caller that reads many entries: it is public.
+pub fn latab_table() -> [u8; 256]
+    ensures { result ≡ latab }
+{
+    let mut table = [0u8; 256];
+    table[..210].copy_from_slice(&LATAB);
+    table
+}
