@@ -5,12 +5,22 @@ ghost use Rattle.sheet.specs.Settings.{channels};
 
 use sheet::Track;
 
+// By index: of `copy_from_slice`, inlined, a call of `memmove` would be left, which nothing else in the archive asks for.
+fn copy_codes(from: &[u16], to: &mut [u16])
+    requires { length to.old ≡ length from.now }
+    ensures { to.new ≡ from.now }
+{
+    for i in 0..from.len() {
+        to[i] = from[i];
+    }
+}
+
 // A channel's codes below end, and 0 from there on.
 fn clean_part(codes: &[u16], end: usize, to: &mut [u16])
     requires { (end ≤ 256) × (length codes.now ≡ 256) × (length to.old ≡ 256) }
     ensures { to.new ≡ clean end codes.now }
 {
-    to[0..end].copy_from_slice(&codes[0..end]);
+    copy_codes(&codes[0..end], &mut to[0..end]);
     to[end..256].fill(0);
 }
 

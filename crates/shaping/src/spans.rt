@@ -17,7 +17,11 @@ pub fn least_from(exp: &[u8], i: usize, h: usize) -> u8
     ensures { result ≡ least h (get_or exp.now i 0) (drop (i + 1) exp.now) }
 {
     let mut m = exp[i];
-    for j in 0..h.min(exp.len() - (i + 1)) {
+    // up to a constant h, with the test inside, no loop is left
+    for j in 0..h {
+        if exp.len() <= i + 1 + j {
+            return m;
+        }
         m = m.min(exp[i + 1 + j]);
     }
     m

@@ -6,4 +6,4 @@ pub returns : goal.returns
 returns c =
     let a = c.args in
     let p = c.requires in
-    clean-made a.end a.codes.now a.to.now _ _ p.0 p.1 p.2 c.copy_from_slice.ensures.after (c.fill.ensures.after (λ y e. e))
+    clean-made a.end a.codes.now a.to.now _ _ p.0 p.1 p.2 c.copy_codes.ensures (c.fill.ensures.after (λ y e. e))
