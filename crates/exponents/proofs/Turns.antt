@@ -18,11 +18,11 @@ use Rattle.exponents.specs.ReadShaped.{groups-read}
 use Rattle.exponents.specs.Reading.{with_group, or_bad_group, read_group, read_groups, read_exponents}
 
 -- what `ok_or` says of what it was given
-pub there : (o : Option ℕ) (k : Fault) (v : ℕ) → Ok v ≡ ok_or o k → o ≡ Some v
+pub there : {E : Type 0} (o : Option ℕ) (k : E) (v : ℕ) → Ok v ≡ ok_or o k → o ≡ Some v
 there None k v e = absurd (cc)
 there (Some x) k v e = cc
 
-pub not-there : (o : Option ℕ) (k n : Fault) → Err n ≡ ok_or o k → o ≡ None
+pub not-there : {E : Type 0} (o : Option ℕ) (k n : E) → Err n ≡ ok_or o k → o ≡ None
 not-there None k n e = refl
 not-there (Some x) k n e = absurd (cc)
 

@@ -2,7 +2,7 @@
 -- bytes (document 02, W1).
 use Rattle.std.specs.Prelude.{ℕ, ◌≤◌, ◌<◌, ◌≡◌, Ok, length, take}
 use Rattle.std.proofs.Math.Path.{refl, sym, ap}
-use Rattle.std.proofs.Common.{◌∙◌, arith, take_all}
+use Rattle.std.proofs.Common.{◌∙◌, arith, subst, take_all}
 use mathlib.Core.List.{List, [], map}
 use Rattle.std.proofs.Math.Decide.{dec_lt}
 use Rattle.std.proofs.Math.ListN.{get_or, get_or-map, get_or-eq_default}
@@ -101,6 +101,10 @@ module _ (s : List ℕ) (accepted : check_of s ≡ Ok tt) where
         first = λ c b e. let h : c < channels_of (common_of s) = rw settings-common at b in
             first_block s accepted c h (sym (ap (λ (r : ChannelRecord). (get_or r.blocks 0 reuses).set) (settings-record c (few c h))) ∙ sym (set-held (settings_of s) 0 c (few c h)) ∙ e);
       }
+
+  -- the same of the records in the order in which they stand
+  pub legal-as-they-stand : LegalSettings (record { common = common_of s; records = six_of (record_of s) })
+  legal-as-they-stand = subst (λ (w : Settings). LegalSettings w) settings-as-they-stand settings-legal
 
   -- ---- written out
 
